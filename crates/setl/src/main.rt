@@ -7,8 +7,8 @@
 use setl_io_adapters::{DiskFiles, ReaderSource, WriterSink};
 use setl_top::{Status, setl};
 use setl_top_status::{Fault, break_off};
-use setl_watch::{Cover, Memory, Profile, Trace, Watcher};
-use std::alloc::Global;
+use setl_watch::{Cover, Profile, Trace, Watcher};
+use std::alloc::{AllocError, Global};
 use std::process::ExitCode;
 use std::{env, io};
 
@@ -21,7 +21,7 @@ fn words(rt: &(impl env::Env + Alloc<A = Global>)) -> io::Result<Vec<String>> {
 
 /// Does what the words ask for, over the real files and the standard streams, with a trace, a cover and a profile to be
 /// asked for. The error is want of memory for these.
-fn run(rt: &HostRuntime, words: &[String]) -> Result<Status, Memory> {
+fn run(rt: &HostRuntime, words: &[String]) -> Result<Status, AllocError> {
     let alloc = rt.alloc();
     let mut watchers: Vec<Box<dyn Watcher>> = Vec::new(alloc);
     watchers.push(Box::new(alloc, Trace::new(alloc)?)?)?;

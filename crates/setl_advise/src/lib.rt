@@ -11,4 +11,3 @@ pub use advice::advise;
 pub use laws::advice_always_fits;
 
 /// Want of memory.
-pub use std::alloc::AllocError as Memory;

@@ -7,12 +7,11 @@ ghost use Rattle.setl_advise_section.specs.Section.{is_used};
 ghost use Rattle.setl_advise_section.specs.code.Numbers.{plain_variables};
 ghost use Rattle.setl_advise.specs.Advice.{AreFirstFree, behind};
 
-use crate::Memory;
 use setl_advise_lattice::Kind;
 use setl_advise_names::first_free;
 use setl_advise_section::{Numbers, Variable, is_used};
 use setl_names::Names;
-use std::alloc::Global;
+use std::alloc::{AllocError, Global};
 
 /// The number of the next base, behind the base of a kind. The error is want of memory.
 fn next(
@@ -21,11 +20,11 @@ fn next(
     variables: &[Variable<'_>],
     k: Kind,
     number: u64,
-) -> Result<u64, Memory>
+) -> Result<u64, AllocError>
     ensures { IfOk result (IsFirstFree names.now (behind (is_used (kind_of k) (plain_variables variables.now)) number)) }
 {
     if is_used(k, variables) {
-        let from = number.checked_add(1).ok_or(Memory)?;
+        let from = number.checked_add(1).ok_or(AllocError)?;
         first_free(alloc, names, from)
     } else {
         first_free(alloc, names, number)
@@ -34,7 +33,11 @@ fn next(
 
 /// The numbers of the bases, so that each base that is used has the next name that isn't among these names. The error is
 /// want of memory.
-pub fn numbers(alloc: Global, names: &Names, variables: &[Variable<'_>]) -> Result<Numbers, Memory>
+pub fn numbers(
+    alloc: Global,
+    names: &Names,
+    variables: &[Variable<'_>],
+) -> Result<Numbers, AllocError>
     ensures { IfOk result (λ n. AreFirstFree names.now n (plain_variables variables.now)) }
 {
     let whole = first_free(alloc, names, 1)?;

@@ -12,7 +12,6 @@ ghost use Rattle.setl_advise_terms.specs.code.Plain.{flows_of};
 ghost use Rattle.setl_advise.specs.Advice.{main_slots, main_variables, with_flow, with_flows};
 ghost use Rattle.setl_advise.specs.code.Flows.{HaveLeastFlows};
 
-use crate::Memory;
 use setl_advise_gathering::{Target, name_of};
 use setl_advise_section::Variable as Declared;
 use setl_advise_solving::{Table, solved};
@@ -21,10 +20,14 @@ use setl_names_walk::resolve_all;
 use setl_program::{Program, Variable};
 use setl_program_scope::Scope;
 use setl_tree::{Declared as Listed, Items, Text, Tree};
-use std::alloc::Global;
+use std::alloc::{AllocError, Global};
 
 /// Adds the variable that a name stands for. The error is want of memory.
-fn push_variable(scope: &Scope<'_>, name: &Text, all: &mut Items<Variable>) -> Result<(), Memory>
+fn push_variable(
+    scope: &Scope<'_>,
+    name: &Text,
+    all: &mut Items<Variable>,
+) -> Result<(), AllocError>
     ensures { OnOk result (map plain_variable all.new ≡ map plain_variable all.old ++ spec.variable_of scope.now name.now ∷ []) }
 {
     let variable = scope.variable(name)?;
@@ -36,7 +39,7 @@ fn push_listed(
     scope: &Scope<'_>,
     listed: &[Listed],
     all: &mut Items<Variable>,
-) -> Result<(), Memory>
+) -> Result<(), AllocError>
     ensures { OnOk result (map plain_variable all.new ≡ map plain_variable all.old ++ map (spec.variable_of scope.now) (var_names listed.now)) }
 {
     for name in listed {
@@ -46,7 +49,11 @@ fn push_listed(
 }
 
 /// Adds the variables of some names. The error is want of memory.
-fn push_named(scope: &Scope<'_>, names: &[Text], all: &mut Items<Variable>) -> Result<(), Memory>
+fn push_named(
+    scope: &Scope<'_>,
+    names: &[Text],
+    all: &mut Items<Variable>,
+) -> Result<(), AllocError>
     ensures { OnOk result (map plain_variable all.new ≡ map plain_variable all.old ++ map (spec.variable_of scope.now) names.now) }
 {
     for name in names {
@@ -60,7 +67,7 @@ fn push_first(
     scope: &Scope<'_>,
     bodies: &[BodyNames],
     all: &mut Items<Variable>,
-) -> Result<(), Memory>
+) -> Result<(), AllocError>
     ensures { OnOk result (map plain_variable all.new ≡ map plain_variable all.old ++ map (spec.variable_of scope.now) (main_slots bodies.now)) }
 {
     match bodies.first() {
@@ -71,7 +78,7 @@ fn push_first(
 
 /// The variables of the main program: those in `var`, then the others in the order of their first appearance. The error is
 /// want of memory.
-pub fn main_variables(alloc: Global, tree: &Tree) -> Result<Items<Variable>, Memory>
+pub fn main_variables(alloc: Global, tree: &Tree) -> Result<Items<Variable>, AllocError>
     ensures { IfOk result (λ all. map plain_variable all ≡ main_variables tree.now) }
 {
     let scope = Scope::main(alloc, tree)?;
@@ -108,7 +115,7 @@ fn with_flows<'p>(
     alloc: Global,
     variables: &'p [Variable],
     table: &Table<'p>,
-) -> Result<Vec<Declared<'p>>, Memory>
+) -> Result<Vec<Declared<'p>>, AllocError>
     ensures { IfOk result (λ all. plain_variables all.items ≡ with_flows (flows_of table.now) (map plain_variable variables.now)) }
 {
     let mut all = Vec::new(alloc);
@@ -123,7 +130,7 @@ pub fn with_least_flows<'p>(
     alloc: Global,
     program: &'p Program,
     variables: &'p [Variable],
-) -> Result<Vec<Declared<'p>>, Memory>
+) -> Result<Vec<Declared<'p>>, AllocError>
     ensures { IfOk result (λ all. Formed (plain_program program.now) → HaveLeastFlows (plain_program program.now) (map plain_variable variables.now) (plain_variables all.items)) }
 {
     setl_advise_order::joins_are_least();

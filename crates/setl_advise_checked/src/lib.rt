@@ -9,4 +9,3 @@ mod programs;
 pub use programs::has_advised_modes;
 
 /// Want of memory.
-pub use std::alloc::AllocError as Memory;

@@ -7,7 +7,6 @@ ghost use Rattle.setl_advise_section.specs.code.Numbers.{bases_of};
 ghost use Rattle.setl_advise_terms.specs.code.Plain.{flows_of};
 ghost use Rattle.setl_advise_checked.specs.Checked.{AreAdvised, RunsFit};
 
-use crate::Memory;
 use crate::based::is_advised;
 use setl_advise_flows::values_stay_in_their_flows;
 use setl_advise_gathering::{Target, name_of};
@@ -15,14 +14,14 @@ use setl_advise_lattice::Kind;
 use setl_advise_section::{Numbers, Variable, is_used};
 use setl_advise_solving::{Table, solved};
 use setl_program::{Declared, Program};
-use std::alloc::Global;
+use std::alloc::{AllocError, Global};
 
 /// The flows of declared variables. The error is want of memory.
 fn flows<'p>(
     alloc: Global,
     declared: &'p [Declared],
     table: &Table<'p>,
-) -> Result<Vec<Variable<'p>>, Memory> {
+) -> Result<Vec<Variable<'p>>, AllocError> {
     let mut all = Vec::new(alloc);
     for d in declared {
         let flow = table.get(Target::Into(name_of(&d.variable)));
@@ -60,7 +59,7 @@ fn are_advised<'p>(declared: &'p [Declared], table: &Table<'p>, numbers: Numbers
 /// Whether the declared variables of a program have the modes that are advised for its least flows, over bases of the
 /// integers, the strings and the atoms in this order. Where they have, no run of the program ends for a value that doesn't
 /// fit, whatever its input and its bound on turns. The error is want of memory.
-pub fn has_advised_modes(alloc: Global, program: &Program) -> Result<bool, Memory>
+pub fn has_advised_modes(alloc: Global, program: &Program) -> Result<bool, AllocError>
     ensures { IfOk result (λ so. so ≡ true → Formed (plain_program program.now) → RunsFit (plain_program program.now)) }
 {
     values_stay_in_their_flows();

@@ -10,18 +10,18 @@ ghost use Rattle.setl_advise_conditions.specs.Conditions.{Held};
 ghost use Rattle.setl_advise_conditions.specs.Parts as parts;
 ghost use Rattle.setl_advise_gathering.specs.code.Plain.{listed, plain_term};
 
-use crate::Memory;
 use crate::condition::{Condition, Term, name_of, parameter};
 use crate::list::store;
 use setl_program::{Argument, Binding, Expr, Procedure, Variable};
 use setl_tree::Param;
+use std::alloc::AllocError;
 
 /// That of a part of a pattern, if it has a name.
 fn slot<'p>(
     term: Term<'p>,
     x: &'p Option<Variable>,
     all: &mut Vec<Condition<'p>>,
-) -> Result<(), Memory>
+) -> Result<(), AllocError>
     ensures { OnOk result (listed all.new.items ≡ listed all.old.items ++ parts.slot_conditions (plain_term term.entry) (plain_slot x.now ∷ [])) }
 {
     match x {
@@ -35,7 +35,7 @@ pub fn slots<'p>(
     term: Term<'p>,
     xs: &'p [Option<Variable>],
     all: &mut Vec<Condition<'p>>,
-) -> Result<(), Memory>
+) -> Result<(), AllocError>
     ensures { OnOk result (listed all.new.items ≡ listed all.old.items ++ parts.slot_conditions (plain_term term.entry) (plain_slots xs.now)) }
 {
     for x in xs {
@@ -49,7 +49,7 @@ pub fn binding<'p>(
     b: &'p Binding,
     es: &'p [Expr],
     all: &mut Vec<Condition<'p>>,
-) -> Result<(), Memory>
+) -> Result<(), AllocError>
     ensures { OnOk result (listed all.new.items ≡ listed all.old.items ++ parts.binding_conditions (plain_binding b.now) (plain_exprs es.now)) }
 {
     match b {
@@ -68,7 +68,7 @@ fn hand_back<'p>(
     p: &'p Param,
     y: &'p Variable,
     all: &mut Vec<Condition<'p>>,
-) -> Result<(), Memory>
+) -> Result<(), AllocError>
     ensures { OnOk result (listed all.new.items ≡ listed all.old.items ++ parts.stored (plain_variable y.now) (Held (parameter body (parameter_of p.now))) ∷ []) }
 {
     store(all, name_of(y), Term::Held(parameter(body, p)))
@@ -80,7 +80,7 @@ fn pass<'p>(
     p: &'p Param,
     x: &'p Argument,
     all: &mut Vec<Condition<'p>>,
-) -> Result<(), Memory>
+) -> Result<(), AllocError>
     ensures { OnOk result (listed all.new.items ≡ listed all.old.items ++ parts.passed_conditions body (parameter_of p.now ∷ []) (plain_argument x.now no_argument)) }
 {
     match x {
@@ -102,7 +102,7 @@ fn passed<'p>(
     ps: &'p [Param],
     xs: &'p [Argument],
     all: &mut Vec<Condition<'p>>,
-) -> Result<(), Memory>
+) -> Result<(), AllocError>
     ensures { OnOk result (listed all.new.items ≡ listed all.old.items ++ parts.passed_conditions body (map parameter_of ps.now) (plain_arguments xs.now)) }
 {
     let mut k = 0;
@@ -127,7 +127,7 @@ pub fn call<'p>(
     f: u32,
     xs: &'p [Argument],
     all: &mut Vec<Condition<'p>>,
-) -> Result<(), Memory>
+) -> Result<(), AllocError>
     ensures { OnOk result (listed all.new.items ≡ listed all.old.items ++ parts.call_conditions (1 + f) (slice_get (map plain_procedure procedures.now) f) (plain_arguments xs.now)) }
 {
     match procedure(procedures, f) {

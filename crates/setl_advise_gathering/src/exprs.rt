@@ -9,11 +9,11 @@ ghost use Rattle.setl_advise_conditions.specs.Parts as parts;
 ghost use Rattle.setl_advise_gathering.specs.Walked.{iterator_conditions};
 ghost use Rattle.setl_advise_gathering.specs.code.Plain.{listed};
 
-use crate::Memory;
 use crate::bindings::{binding, call};
 use crate::condition::Condition;
 use setl_program::{Argument, Expr, Iterator, Link, Procedure};
 use setl_tree::Boxed;
+use std::alloc::AllocError;
 
 /// Those of an expression.
 #[cycle(expr)]
@@ -21,7 +21,7 @@ pub fn expr<'p>(
     procedures: &'p [Procedure],
     e: &'p Expr,
     all: &mut Vec<Condition<'p>>,
-) -> Result<(), Memory>
+) -> Result<(), AllocError>
     ensures { OnOk result (listed all.new.items ≡ listed all.old.items ++ parts.expr_conditions (map plain_procedure procedures.now) (plain_expr e.now)) }
 {
     match e {
@@ -71,7 +71,7 @@ pub fn exprs<'p>(
     procedures: &'p [Procedure],
     es: &'p [Expr],
     all: &mut Vec<Condition<'p>>,
-) -> Result<(), Memory>
+) -> Result<(), AllocError>
     ensures { OnOk result (listed all.new.items ≡ listed all.old.items ++ parts.exprs_conditions (map plain_procedure procedures.now) (plain_exprs es.now)) }
 {
     for e in es {
@@ -86,7 +86,7 @@ fn links<'p>(
     procedures: &'p [Procedure],
     ls: &'p [Link],
     all: &mut Vec<Condition<'p>>,
-) -> Result<(), Memory>
+) -> Result<(), AllocError>
     ensures { OnOk result (listed all.new.items ≡ listed all.old.items ++ parts.expr_conditions (map plain_procedure procedures.now) (chained Undefined (map plain_link ls.now))) }
 {
     for l in ls {
@@ -101,7 +101,7 @@ fn link<'p>(
     procedures: &'p [Procedure],
     l: &'p Link,
     all: &mut Vec<Condition<'p>>,
-) -> Result<(), Memory>
+) -> Result<(), AllocError>
     ensures { OnOk result (listed all.new.items ≡ listed all.old.items ++ parts.expr_conditions (map plain_procedure procedures.now) (plain_link l.now Undefined)) }
 {
     match l {
@@ -121,7 +121,7 @@ pub fn iterators<'p>(
     procedures: &'p [Procedure],
     is: &'p [Iterator],
     all: &mut Vec<Condition<'p>>,
-) -> Result<(), Memory>
+) -> Result<(), AllocError>
     ensures { OnOk result (listed all.new.items ≡ listed all.old.items ++ parts.iterators_conditions (map plain_procedure procedures.now) (plain_iterators is.now)) }
 {
     for i in is {
@@ -136,7 +136,7 @@ fn iterator<'p>(
     procedures: &'p [Procedure],
     i: &'p Iterator,
     all: &mut Vec<Condition<'p>>,
-) -> Result<(), Memory>
+) -> Result<(), AllocError>
     ensures { OnOk result (listed all.new.items ≡ listed all.old.items ++ iterator_conditions (map plain_procedure procedures.now) (plain_iterator i.now)) }
 {
     binding(&i.binding, i.sources.as_slice(), all)?;
@@ -149,7 +149,7 @@ fn test<'p>(
     procedures: &'p [Procedure],
     t: &'p Option<Boxed<Expr>>,
     all: &mut Vec<Condition<'p>>,
-) -> Result<(), Memory>
+) -> Result<(), AllocError>
     ensures { OnOk result (listed all.new.items ≡ listed all.old.items ++ parts.test_conditions (map plain_procedure procedures.now) (condition_of (option_map plain_expr t.now))) }
 {
     match t {
@@ -164,7 +164,7 @@ fn arguments<'p>(
     procedures: &'p [Procedure],
     xs: &'p [Argument],
     all: &mut Vec<Condition<'p>>,
-) -> Result<(), Memory>
+) -> Result<(), AllocError>
     ensures { OnOk result (listed all.new.items ≡ listed all.old.items ++ parts.arguments_conditions (map plain_procedure procedures.now) (plain_arguments xs.now)) }
 {
     for x in xs {
@@ -179,7 +179,7 @@ fn argument<'p>(
     procedures: &'p [Procedure],
     x: &'p Argument,
     all: &mut Vec<Condition<'p>>,
-) -> Result<(), Memory>
+) -> Result<(), AllocError>
     ensures { OnOk result (listed all.new.items ≡ listed all.old.items ++ parts.arguments_conditions (map plain_procedure procedures.now) (plain_argument x.now no_argument)) }
 {
     match x {

@@ -9,5 +9,4 @@ mod stmts;
 mod whole;
 
 pub use condition::{Condition, Name, Target, Term, name_of};
-pub use std::alloc::AllocError as Memory;
 pub use whole::gathered;

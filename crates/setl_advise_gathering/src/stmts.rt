@@ -8,20 +8,20 @@ ghost use Rattle.setl_advise_conditions.specs.Parts as parts;
 ghost use Rattle.setl_advise_gathering.specs.Walked.{all_read, selector_conditions, branch_conditions};
 ghost use Rattle.setl_advise_gathering.specs.code.Plain.{listed, plain_term};
 
-use crate::Memory;
 use crate::bindings::slots;
 use crate::condition::{Condition, Target, Term, name_of};
 use crate::exprs::{expr, exprs, iterators};
 use crate::list::{push, store};
 use setl_operators_table::Operator;
 use setl_program::{Branch, Expr, Place, Procedure, Selector, Stmt, StmtKind, Variable};
+use std::alloc::AllocError;
 
 /// Those of the expressions of selectors.
 fn selectors<'p>(
     procedures: &'p [Procedure],
     ss: &'p [Selector],
     all: &mut Vec<Condition<'p>>,
-) -> Result<(), Memory>
+) -> Result<(), AllocError>
     ensures { OnOk result (listed all.new.items ≡ listed all.old.items ++ parts.selectors_conditions (map plain_procedure procedures.now) (selectors_of ss.now)) }
 {
     for s in ss {
@@ -35,7 +35,7 @@ fn selector<'p>(
     procedures: &'p [Procedure],
     s: &'p Selector,
     all: &mut Vec<Condition<'p>>,
-) -> Result<(), Memory>
+) -> Result<(), AllocError>
     ensures { OnOk result (listed all.new.items ≡ listed all.old.items ++ selector_conditions (map plain_procedure procedures.now) s.now) }
 {
     match s {
@@ -50,7 +50,7 @@ fn stored<'p>(
     p: &'p Place,
     term: Term<'p>,
     all: &mut Vec<Condition<'p>>,
-) -> Result<(), Memory>
+) -> Result<(), AllocError>
     ensures { OnOk result (listed all.new.items ≡ listed all.old.items ++ parts.stored (plain_place p.now).variable (plain_term term.entry) ∷ parts.selectors_conditions (map plain_procedure procedures.now) (plain_place p.now).selectors) }
 {
     store(all, name_of(&p.variable), term)?;
@@ -58,7 +58,7 @@ fn stored<'p>(
 }
 
 /// Those of what a body returns; the main program, of number 0, returns nothing.
-fn returned<'p>(body: u64, e: &'p Expr, all: &mut Vec<Condition<'p>>) -> Result<(), Memory>
+fn returned<'p>(body: u64, e: &'p Expr, all: &mut Vec<Condition<'p>>) -> Result<(), AllocError>
     ensures { OnOk result ((procedures : List plain.Procedure) → listed all.new.items ≡ listed all.old.items ++ parts.return_conditions procedures body (plain_expr e.now)) }
 {
     if body == 0 {
@@ -74,7 +74,7 @@ fn returned<'p>(body: u64, e: &'p Expr, all: &mut Vec<Condition<'p>>) -> Result<
 }
 
 /// Those of what is read.
-fn reads<'p>(xs: &'p [Variable], all: &mut Vec<Condition<'p>>) -> Result<(), Memory>
+fn reads<'p>(xs: &'p [Variable], all: &mut Vec<Condition<'p>>) -> Result<(), AllocError>
     ensures { OnOk result (listed all.new.items ≡ listed all.old.items ++ all_read (map plain_variable xs.now)) }
 {
     for x in xs {
@@ -88,7 +88,7 @@ fn test<'p>(
     procedures: &'p [Procedure],
     t: &'p Option<Expr>,
     all: &mut Vec<Condition<'p>>,
-) -> Result<(), Memory>
+) -> Result<(), AllocError>
     ensures { OnOk result (listed all.new.items ≡ listed all.old.items ++ parts.test_conditions (map plain_procedure procedures.now) (condition_of (option_map plain_expr t.now))) }
 {
     match t {
@@ -104,7 +104,7 @@ pub fn block<'p>(
     body: u64,
     ss: &'p [Stmt],
     all: &mut Vec<Condition<'p>>,
-) -> Result<(), Memory>
+) -> Result<(), AllocError>
     ensures { OnOk result (listed all.new.items ≡ listed all.old.items ++ parts.block_conditions (map plain_procedure procedures.now) body (plain_block ss.now)) }
 {
     for s in ss {
@@ -120,7 +120,7 @@ fn stmt<'p>(
     body: u64,
     s: &'p Stmt,
     all: &mut Vec<Condition<'p>>,
-) -> Result<(), Memory>
+) -> Result<(), AllocError>
     ensures { OnOk result (listed all.new.items ≡ listed all.old.items ++ parts.stmt_conditions (map plain_procedure procedures.now) body (plain_stmt s.now).1) }
 {
     kind(procedures, body, &s.kind, all)
@@ -133,7 +133,7 @@ fn kind<'p>(
     body: u64,
     k: &'p StmtKind,
     all: &mut Vec<Condition<'p>>,
-) -> Result<(), Memory>
+) -> Result<(), AllocError>
     ensures { OnOk result (listed all.new.items ≡ listed all.old.items ++ parts.stmt_conditions (map plain_procedure procedures.now) body (plain_kind k.now)) }
 {
     match k {
@@ -194,7 +194,7 @@ fn branches<'p>(
     body: u64,
     bs: &'p [Branch],
     all: &mut Vec<Condition<'p>>,
-) -> Result<(), Memory>
+) -> Result<(), AllocError>
     ensures { OnOk result (listed all.new.items ≡ listed all.old.items ++ branch_conditions (map plain_procedure procedures.now) body bs.now) }
 {
     for b in bs {

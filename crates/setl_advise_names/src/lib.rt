@@ -8,4 +8,3 @@ pub use free::first_free;
 pub use spelled::spelled_names;
 
 /// Want of memory.
-pub use std::alloc::AllocError as Memory;

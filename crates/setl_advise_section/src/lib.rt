@@ -10,4 +10,3 @@ pub use plain::Written;
 pub use sections::{Variable, is_used, section};
 
 /// Want of memory.
-pub use std::alloc::AllocError as Memory;

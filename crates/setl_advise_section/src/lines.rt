@@ -9,10 +9,10 @@ ghost use Rattle.setl_advise_lattice.specs.code.Levels.{flow_of, kind_of, middle
 ghost use Rattle.setl_advise_section.specs.Text.{base_name, base_text, line_text, mode_text, or_general};
 ghost use Rattle.setl_advise_section.specs.code.Numbers.{bases_of};
 
-use crate::Memory;
 use crate::plain::{Written, push_kind};
 use setl_advise_lattice::{Flat, Flow, Kind, Level};
 use setl_text::push_decimal;
+use std::alloc::AllocError;
 
 /// The numbers of the bases of the integers, the strings and the atoms.
 #[derive(Clone, Copy, Debug)]
@@ -37,7 +37,7 @@ impl Numbers {
 }
 
 /// Adds the name of the base with a number. The error is want of memory.
-pub fn push_name(number: u64, into: &mut Vec<u8>) -> Result<(), Memory>
+pub fn push_name(number: u64, into: &mut Vec<u8>) -> Result<(), AllocError>
     ensures { OnOk result (into.new.items ≡ into.old.items ++ base_name number) }
 {
     into.extend_from_slice(b"b")?;
@@ -45,7 +45,7 @@ pub fn push_name(number: u64, into: &mut Vec<u8>) -> Result<(), Memory>
 }
 
 /// Adds the line of the base of a kind of scalars. The error is want of memory.
-pub fn push_base(into: &mut Vec<u8>, k: Kind, numbers: Numbers) -> Result<(), Memory>
+pub fn push_base(into: &mut Vec<u8>, k: Kind, numbers: Numbers) -> Result<(), AllocError>
     ensures { OnOk result (into.new.items ≡ into.old.items ++ base_text (bases_of numbers (kind_of k)) (kind_mode (kind_of k))) }
 {
     into.extend_from_slice(b"base ")?;
@@ -56,7 +56,7 @@ pub fn push_base(into: &mut Vec<u8>, k: Kind, numbers: Numbers) -> Result<(), Me
 }
 
 /// Adds the text of the members of the base of a kind of scalars. The error is want of memory.
-fn push_members(k: Kind, numbers: Numbers, into: &mut Vec<u8>) -> Result<(), Memory>
+fn push_members(k: Kind, numbers: Numbers, into: &mut Vec<u8>) -> Result<(), AllocError>
     ensures { OnOk result (into.new.items ≡ into.old.items ++ codes "elmt " ++ base_name (bases_of numbers (kind_of k))) }
 {
     into.extend_from_slice(b"elmt ")?;
@@ -64,7 +64,7 @@ fn push_members(k: Kind, numbers: Numbers, into: &mut Vec<u8>) -> Result<(), Mem
 }
 
 /// Adds the text of the mode of the members of a base between two texts. The error is want of memory.
-fn push_around(head: &[u8], k: Kind, numbers: Numbers, into: &mut Vec<u8>) -> Result<(), Memory>
+fn push_around(head: &[u8], k: Kind, numbers: Numbers, into: &mut Vec<u8>) -> Result<(), AllocError>
     ensures { OnOk result (into.new.items ≡ into.old.items ++ head.now ++ (codes "elmt " ++ base_name (bases_of numbers (kind_of k))) ++ codes ")") }
 {
     into.extend_from_slice(head)?;
@@ -73,7 +73,7 @@ fn push_around(head: &[u8], k: Kind, numbers: Numbers, into: &mut Vec<u8>) -> Re
 }
 
 /// Adds the text of the mode of sets of scalars of a kind. The error is want of memory.
-fn push_scalar_set(k: Kind, numbers: Numbers, into: &mut Vec<u8>) -> Result<(), Memory>
+fn push_scalar_set(k: Kind, numbers: Numbers, into: &mut Vec<u8>) -> Result<(), AllocError>
     ensures { OnOk result (into.new.items ≡ into.old.items ++ mode_text (or_general (advised (bases_of numbers) (plain.Set (plain.Scalar (kind_of k)))))) }
 {
     match k {
@@ -85,7 +85,7 @@ fn push_scalar_set(k: Kind, numbers: Numbers, into: &mut Vec<u8>) -> Result<(), 
 }
 
 /// Adds the text of the mode of sets. The error is want of memory.
-fn push_set(h: Level<Level<Flat>>, numbers: Numbers, into: &mut Vec<u8>) -> Result<(), Memory>
+fn push_set(h: Level<Level<Flat>>, numbers: Numbers, into: &mut Vec<u8>) -> Result<(), AllocError>
     ensures { OnOk result (into.new.items ≡ into.old.items ++ mode_text (or_general (advised (bases_of numbers) (plain.Set (middle_flow h))))) }
 {
     match h {
@@ -99,7 +99,7 @@ fn push_set(h: Level<Level<Flat>>, numbers: Numbers, into: &mut Vec<u8>) -> Resu
 }
 
 /// Adds the text of the mode of tuples of scalars of a kind. The error is want of memory.
-fn push_scalar_tuple(k: Kind, numbers: Numbers, into: &mut Vec<u8>) -> Result<(), Memory>
+fn push_scalar_tuple(k: Kind, numbers: Numbers, into: &mut Vec<u8>) -> Result<(), AllocError>
     ensures { OnOk result (into.new.items ≡ into.old.items ++ mode_text (or_general (advised (bases_of numbers) (plain.Tuple (plain.Scalar (kind_of k)))))) }
 {
     match k {
@@ -111,7 +111,7 @@ fn push_scalar_tuple(k: Kind, numbers: Numbers, into: &mut Vec<u8>) -> Result<()
 }
 
 /// Adds the text of the mode of tuples. The error is want of memory.
-fn push_tuple(h: Level<Level<Flat>>, numbers: Numbers, into: &mut Vec<u8>) -> Result<(), Memory>
+fn push_tuple(h: Level<Level<Flat>>, numbers: Numbers, into: &mut Vec<u8>) -> Result<(), AllocError>
     ensures { OnOk result (into.new.items ≡ into.old.items ++ mode_text (or_general (advised (bases_of numbers) (plain.Tuple (middle_flow h))))) }
 {
     match h {
@@ -125,7 +125,11 @@ fn push_tuple(h: Level<Level<Flat>>, numbers: Numbers, into: &mut Vec<u8>) -> Re
 }
 
 /// Adds the text of the mode of sets of images. The error is want of memory.
-fn push_images(g: Level<Level<Flat>>, numbers: Numbers, into: &mut Vec<u8>) -> Result<(), Memory>
+fn push_images(
+    g: Level<Level<Flat>>,
+    numbers: Numbers,
+    into: &mut Vec<u8>,
+) -> Result<(), AllocError>
     ensures { OnOk result (into.new.items ≡ into.old.items ++ mode_text (image_mode (bases_of numbers) (middle_flow g))) }
 {
     match g {
@@ -139,7 +143,7 @@ fn push_images(g: Level<Level<Flat>>, numbers: Numbers, into: &mut Vec<u8>) -> R
 }
 
 /// Adds the text of the mode of sets of images that are scalars of a kind. The error is want of memory.
-fn push_scalar_images(k: Kind, numbers: Numbers, into: &mut Vec<u8>) -> Result<(), Memory>
+fn push_scalar_images(k: Kind, numbers: Numbers, into: &mut Vec<u8>) -> Result<(), AllocError>
     ensures { OnOk result (into.new.items ≡ into.old.items ++ mode_text (image_mode (bases_of numbers) (plain.Scalar (kind_of k)))) }
 {
     match k {
@@ -156,7 +160,7 @@ fn push_base_map(
     g: Level<Level<Flat>>,
     numbers: Numbers,
     into: &mut Vec<u8>,
-) -> Result<(), Memory>
+) -> Result<(), AllocError>
     ensures { OnOk result (into.new.items ≡ into.old.items ++ codes "sparse mmap{" ++ (codes "elmt " ++ base_name (bases_of numbers (kind_of k))) ++ codes "} " ++ mode_text (image_mode (bases_of numbers) (middle_flow g))) }
 {
     into.extend_from_slice(b"sparse mmap{")?;
@@ -171,7 +175,7 @@ fn push_scalar_map(
     g: Level<Level<Flat>>,
     numbers: Numbers,
     into: &mut Vec<u8>,
-) -> Result<(), Memory>
+) -> Result<(), AllocError>
     ensures { OnOk result (into.new.items ≡ into.old.items ++ mode_text (or_general (advised (bases_of numbers) (plain.Map (plain.Scalar (kind_of k)) (middle_flow g))))) }
 {
     match k {
@@ -188,7 +192,7 @@ fn push_map(
     g: Level<Level<Flat>>,
     numbers: Numbers,
     into: &mut Vec<u8>,
-) -> Result<(), Memory>
+) -> Result<(), AllocError>
     ensures { OnOk result (into.new.items ≡ into.old.items ++ mode_text (or_general (advised (bases_of numbers) (plain.Map (middle_flow f) (middle_flow g))))) }
 {
     match f {
@@ -202,7 +206,7 @@ fn push_map(
 }
 
 /// Adds the text of the mode that is advised for a flow. The error is want of memory.
-fn push_mode(f: Flow, numbers: Numbers, into: &mut Vec<u8>) -> Result<(), Memory>
+fn push_mode(f: Flow, numbers: Numbers, into: &mut Vec<u8>) -> Result<(), AllocError>
     ensures { OnOk result (into.new.items ≡ into.old.items ++ mode_text (or_general (advised (bases_of numbers) (flow_of f)))) }
 {
     match f {
@@ -233,7 +237,12 @@ fn is_declared(f: Flow) -> bool
 
 /// Adds the line of a variable with the mode that is advised for its flow; where none is, it adds nothing. The error is
 /// want of memory.
-pub fn push_line(into: &mut Vec<u8>, name: &[u8], f: Flow, numbers: Numbers) -> Result<(), Memory>
+pub fn push_line(
+    into: &mut Vec<u8>,
+    name: &[u8],
+    f: Flow,
+    numbers: Numbers,
+) -> Result<(), AllocError>
     ensures { OnOk result (into.new.items ≡ into.old.items ++ line_text name.now (advised (bases_of numbers) (flow_of f))) }
 {
     if !is_declared(f) {

@@ -5,18 +5,18 @@ ghost use Rattle.setl_advise_flows.specs.Advice.{kind_mode, plain_mode};
 ghost use Rattle.setl_advise_lattice.specs.code.Levels.{kind_of};
 ghost use Rattle.setl_advise_section.specs.Text.{mode_text};
 
-use crate::Memory;
 use setl_advise_lattice::{Flat, Kind, Level, Part};
+use std::alloc::AllocError;
 
 /// Flows whose modes have a text.
 pub trait Written: Part {
     /// Adds the text of the mode of a flow, without bases. The error is want of memory.
-    fn push(self, into: &mut Vec<u8>) -> Result<(), Memory>
+    fn push(self, into: &mut Vec<u8>) -> Result<(), AllocError>
         ensures { OnOk result (into.new.items ≡ into.old.items ++ mode_text (plain_mode (Self.flow self))) };
 }
 
 /// Adds the text of the mode of a kind of scalars. The error is want of memory.
-pub(crate) fn push_kind(k: Kind, into: &mut Vec<u8>) -> Result<(), Memory>
+pub(crate) fn push_kind(k: Kind, into: &mut Vec<u8>) -> Result<(), AllocError>
     ensures { OnOk result (into.new.items ≡ into.old.items ++ mode_text (kind_mode (kind_of k))) }
 {
     match k {
@@ -28,7 +28,7 @@ pub(crate) fn push_kind(k: Kind, into: &mut Vec<u8>) -> Result<(), Memory>
 }
 
 impl Written for Flat {
-    fn push(self, into: &mut Vec<u8>) -> Result<(), Memory> {
+    fn push(self, into: &mut Vec<u8>) -> Result<(), AllocError> {
         match self {
             Flat::Nothing => into.extend_from_slice(b"general"),
             Flat::Scalar(k) => push_kind(k, into),
@@ -38,7 +38,7 @@ impl Written for Flat {
 }
 
 impl<P: Written> Written for Level<P> {
-    fn push(self, into: &mut Vec<u8>) -> Result<(), Memory> {
+    fn push(self, into: &mut Vec<u8>) -> Result<(), AllocError> {
         match self {
             Level::Nothing => into.extend_from_slice(b"general"),
             Level::Scalar(k) => push_kind(k, into),

@@ -6,10 +6,9 @@ ghost use Rattle.setl_advise_lattice.specs.code.Levels.{flow_of, kind_of, middle
 ghost use Rattle.setl_advise_section.specs.Section.{base_line, is_scalar, is_used, lines_text, map_uses, section_text, uses};
 ghost use Rattle.setl_advise_section.specs.code.Numbers.{bases_of, plain_variables};
 
-use crate::Memory;
 use crate::lines::{Numbers, push_base, push_line};
 use setl_advise_lattice::{Flat, Flow, Kind, Level};
-use std::alloc::Global;
+use std::alloc::{AllocError, Global};
 
 /// A variable by its name, with its flow.
 #[derive(Clone, Copy, Debug)]
@@ -88,7 +87,7 @@ fn push_used_base(
     k: Kind,
     variables: &[Variable<'_>],
     numbers: Numbers,
-) -> Result<(), Memory>
+) -> Result<(), AllocError>
     ensures { OnOk result (into.new.items ≡ into.old.items ++ base_line (bases_of numbers) (kind_of k) (plain_variables variables.now)) }
 {
     if is_used(k, variables) {
@@ -103,7 +102,7 @@ fn push_lines(
     into: &mut Vec<u8>,
     variables: &[Variable<'_>],
     numbers: Numbers,
-) -> Result<(), Memory>
+) -> Result<(), AllocError>
     ensures { OnOk result (into.new.items ≡ into.old.items ++ lines_text (bases_of numbers) (plain_variables variables.now)) }
 {
     for v in variables {
@@ -118,7 +117,7 @@ pub fn section(
     alloc: Global,
     variables: &[Variable<'_>],
     numbers: Numbers,
-) -> Result<Vec<u8>, Memory>
+) -> Result<Vec<u8>, AllocError>
     ensures { IfOk result (λ text. text.items ≡ section_text (bases_of numbers) (plain_variables variables.now)) }
 {
     let mut text = Vec::from_slice(alloc, b"repr\n")?;

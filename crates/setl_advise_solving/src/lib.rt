@@ -8,5 +8,5 @@ mod reads;
 mod sweeps;
 mod worklist;
 
-pub use setl_advise_terms::{Memory, Table};
+pub use setl_advise_terms::Table;
 pub use sweeps::{settled, solved};

@@ -10,8 +10,8 @@ use crate::meet::meet;
 use crate::readers::Reader;
 use crate::worklist::Worklist;
 use setl_advise_gathering::Condition;
-use setl_advise_terms::{Memory, Table};
-use std::alloc::Global;
+use setl_advise_terms::Table;
+use std::alloc::{AllocError, Global};
 
 /// Looks at a condition. Where it changes the flow of its target, which is told, all conditions wait that need this flow. An
 /// error is want of memory.
@@ -21,7 +21,7 @@ fn look<'p>(
     k: Reader,
     list: &mut Worklist<'p>,
     table: &mut Table<'p>,
-) -> Result<bool, Memory>
+) -> Result<bool, AllocError>
     ensures { IfOk result (λ rose. Worked (listed conditions.now) rose (flows_of table.old) (flows_of table.new)) }
 {
     list.begin(k);
@@ -42,7 +42,7 @@ fn round<'p>(
     some: &[Reader],
     list: &mut Worklist<'p>,
     table: &mut Table<'p>,
-) -> Result<bool, Memory>
+) -> Result<bool, AllocError>
     ensures { IfOk result (λ rose. Worked (listed conditions.now) rose (flows_of table.old) (flows_of table.new)) }
 {
     let mut rose = false;
@@ -61,7 +61,7 @@ fn next_round<'p>(
     conditions: &[Condition<'p>],
     list: &mut Worklist<'p>,
     table: &mut Table<'p>,
-) -> Result<bool, Memory>
+) -> Result<bool, AllocError>
     ensures { IfOk result (λ rose. Worked (listed conditions.now) rose (flows_of table.old) (flows_of table.new)) }
 {
     let narrow = list.take_narrow();
@@ -75,7 +75,10 @@ fn next_round<'p>(
 /// Flows that have no more than what these conditions store in turn, and mostly all of it. An error is want of memory.
 ///
 /// All conditions are looked at once, and then, round by round, those that need a flow that changed.
-pub(crate) fn hastened<'p>(alloc: Global, conditions: &[Condition<'p>]) -> Result<Table<'p>, Memory>
+pub(crate) fn hastened<'p>(
+    alloc: Global,
+    conditions: &[Condition<'p>],
+) -> Result<Table<'p>, AllocError>
     ensures { IfOk result (λ t. Grown (listed conditions.now) (flows_of t)) }
 {
     let mut table = Table::new(alloc);

@@ -9,15 +9,15 @@ ghost use Rattle.setl_advise_gathering.specs.code.Plain.{plain_condition};
 ghost use Rattle.setl_advise_terms.specs.code.Plain.{flows_of};
 
 use setl_advise_gathering::Condition;
-use setl_advise_terms::{Memory, Table, term};
-use std::alloc::Global;
+use setl_advise_terms::{Table, term};
+use std::alloc::{AllocError, Global};
 
 /// Lets the target of a condition have what the condition stores, and tells whether it had not. An error is want of memory.
 pub(crate) fn meet<'p>(
     alloc: Global,
     table: &mut Table<'p>,
     c: Condition<'p>,
-) -> Result<bool, Memory>
+) -> Result<bool, AllocError>
     ensures stays { IfOk result (λ rose. rose ≡ false → table.new ≡ table.old) }
     ensures met { IfOk result (λ rose. rose ≡ false → Meets (flows_of table.old) (plain_condition c.entry)) }
     ensures raised { IfOk result (λ rose. rose ≡ true → flows_of table.new ≡ raised_by (flows_of table.old) (plain_condition c.entry)) }

@@ -4,8 +4,7 @@ ghost use Rattle.std.specs.Prelude.{◌<◌, IfSome};
 
 use indexmap::IndexMap;
 use setl_advise_gathering::Target;
-use setl_advise_terms::Memory;
-use std::alloc::Global;
+use std::alloc::{AllocError, Global};
 
 /// A condition, by its place among the conditions.
 pub(crate) type Reader = usize;
@@ -61,7 +60,7 @@ impl<'p> Readers<'p> {
     }
 
     /// Notes that a condition needs the flow of a target, unless that was noted last. An error is want of memory.
-    pub(crate) fn note(&mut self, target: Target<'p>, reader: Reader) -> Result<(), Memory> {
+    pub(crate) fn note(&mut self, target: Target<'p>, reader: Reader) -> Result<(), AllocError> {
         let before = self.last(target);
         if matches!(self.at(before), Some((last, _)) if last == reader) {
             return Ok(());

@@ -2,17 +2,17 @@
 
 use crate::readers::{Reader, Readers};
 use setl_advise_gathering::{Target, Term, name_of};
-use setl_advise_terms::Memory;
 use setl_program::{Expr, Link, Place, Selector, Variable};
+use std::alloc::AllocError;
 
 /// Notes what the flow of a variable is needed for. An error is want of memory.
-fn variable<'p>(x: &'p Variable, by: Reader, all: &mut Readers<'p>) -> Result<(), Memory> {
+fn variable<'p>(x: &'p Variable, by: Reader, all: &mut Readers<'p>) -> Result<(), AllocError> {
     all.note(Target::Into(name_of(x)), by)
 }
 
 /// Notes what the shape of an expression needs. An error is want of memory.
 #[cycle(expr)]
-fn expr<'p>(e: &'p Expr, by: Reader, all: &mut Readers<'p>) -> Result<(), Memory> {
+fn expr<'p>(e: &'p Expr, by: Reader, all: &mut Readers<'p>) -> Result<(), AllocError> {
     match e {
         Expr::Name(x) => variable(x, by, all),
         Expr::Apply(_, es) => exprs(es.as_slice(), by, all),
@@ -33,7 +33,7 @@ fn expr<'p>(e: &'p Expr, by: Reader, all: &mut Readers<'p>) -> Result<(), Memory
 
 /// Notes what the shapes of expressions need. An error is want of memory.
 #[cycle(expr)]
-fn exprs<'p>(es: &'p [Expr], by: Reader, all: &mut Readers<'p>) -> Result<(), Memory> {
+fn exprs<'p>(es: &'p [Expr], by: Reader, all: &mut Readers<'p>) -> Result<(), AllocError> {
     for e in es {
         expr(e, by, all)?;
     }
@@ -42,7 +42,7 @@ fn exprs<'p>(es: &'p [Expr], by: Reader, all: &mut Readers<'p>) -> Result<(), Me
 
 /// Notes what links need. An error is want of memory.
 #[cycle(expr)]
-fn links<'p>(ls: &'p [Link], by: Reader, all: &mut Readers<'p>) -> Result<(), Memory> {
+fn links<'p>(ls: &'p [Link], by: Reader, all: &mut Readers<'p>) -> Result<(), AllocError> {
     for l in ls {
         link(l, by, all)?;
     }
@@ -51,7 +51,7 @@ fn links<'p>(ls: &'p [Link], by: Reader, all: &mut Readers<'p>) -> Result<(), Me
 
 /// Notes what a link needs. An error is want of memory.
 #[cycle(expr)]
-fn link<'p>(l: &'p Link, by: Reader, all: &mut Readers<'p>) -> Result<(), Memory> {
+fn link<'p>(l: &'p Link, by: Reader, all: &mut Readers<'p>) -> Result<(), AllocError> {
     match l {
         Link::Unary(_) => Ok(()),
         Link::Binary(_, x) => expr(x, by, all),
@@ -64,7 +64,7 @@ fn link<'p>(l: &'p Link, by: Reader, all: &mut Readers<'p>) -> Result<(), Memory
 }
 
 /// Notes what a selector needs. An error is want of memory.
-fn selector<'p>(s: &'p Selector, by: Reader, all: &mut Readers<'p>) -> Result<(), Memory> {
+fn selector<'p>(s: &'p Selector, by: Reader, all: &mut Readers<'p>) -> Result<(), AllocError> {
     match s {
         Selector::Round(e) => expr(e, by, all),
         Selector::Brace(e) => expr(e, by, all),
@@ -72,7 +72,7 @@ fn selector<'p>(s: &'p Selector, by: Reader, all: &mut Readers<'p>) -> Result<()
 }
 
 /// Notes what a place needs. An error is want of memory.
-fn place<'p>(p: &'p Place, by: Reader, all: &mut Readers<'p>) -> Result<(), Memory> {
+fn place<'p>(p: &'p Place, by: Reader, all: &mut Readers<'p>) -> Result<(), AllocError> {
     variable(&p.variable, by, all)?;
     for s in p.selectors.as_slice() {
         selector(s, by, all)?;
@@ -81,13 +81,22 @@ fn place<'p>(p: &'p Place, by: Reader, all: &mut Readers<'p>) -> Result<(), Memo
 }
 
 /// Notes what is stored in a place needs. An error is want of memory.
-fn stored<'p>(p: &'p Place, e: &'p Expr, by: Reader, all: &mut Readers<'p>) -> Result<(), Memory> {
+fn stored<'p>(
+    p: &'p Place,
+    e: &'p Expr,
+    by: Reader,
+    all: &mut Readers<'p>,
+) -> Result<(), AllocError> {
     place(p, by, all)?;
     expr(e, by, all)
 }
 
 /// Notes what the flow of a term needs. An error is want of memory.
-pub(crate) fn note_term<'p>(t: Term<'p>, by: Reader, all: &mut Readers<'p>) -> Result<(), Memory> {
+pub(crate) fn note_term<'p>(
+    t: Term<'p>,
+    by: Reader,
+    all: &mut Readers<'p>,
+) -> Result<(), AllocError> {
     match t {
         Term::Anything | Term::Unset => Ok(()),
         Term::Held(x) => all.note(Target::Into(x), by),

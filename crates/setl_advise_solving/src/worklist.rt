@@ -3,8 +3,7 @@
 use crate::readers::{Reader, Readers};
 use crate::reads::note_term;
 use setl_advise_gathering::{Condition, Target, Term};
-use setl_advise_terms::Memory;
-use std::alloc::Global;
+use std::alloc::{AllocError, Global};
 use std::mem;
 
 /// A condition that needs more flows than this waits until none waits that needs fewer.
@@ -24,7 +23,10 @@ pub(crate) struct Worklist<'p> {
 
 impl<'p> Worklist<'p> {
     /// All conditions wait, in their order. An error is want of memory.
-    pub(crate) fn new(alloc: Global, conditions: &[Condition<'p>]) -> Result<Worklist<'p>, Memory> {
+    pub(crate) fn new(
+        alloc: Global,
+        conditions: &[Condition<'p>],
+    ) -> Result<Worklist<'p>, AllocError> {
         let mut list = Worklist {
             alloc,
             readers: Readers::new(alloc),
@@ -40,7 +42,7 @@ impl<'p> Worklist<'p> {
 
     /// Notes which flows conditions need. The last are noted first, so that those that need the flow of a target are found in
     /// their order. An error is want of memory.
-    fn note_all(&mut self, conditions: &[Condition<'p>]) -> Result<(), Memory> {
+    fn note_all(&mut self, conditions: &[Condition<'p>]) -> Result<(), AllocError> {
         let mut k = conditions.len();
         'conditions: while k > 0 {
             k -= 1;
@@ -50,7 +52,7 @@ impl<'p> Worklist<'p> {
     }
 
     /// Notes which flows a condition with this term needs. An error is want of memory.
-    fn note(&mut self, k: Reader, t: Term<'p>) -> Result<(), Memory> {
+    fn note(&mut self, k: Reader, t: Term<'p>) -> Result<(), AllocError> {
         let before = self.readers.len();
         note_term(t, k, &mut self.readers)?;
         if k < self.is_wide.len() {
@@ -60,7 +62,7 @@ impl<'p> Worklist<'p> {
     }
 
     /// Lets the first conditions wait. An error is want of memory.
-    fn put_all(&mut self, count: usize) -> Result<(), Memory> {
+    fn put_all(&mut self, count: usize) -> Result<(), AllocError> {
         for k in 0..count {
             self.put(k)?;
         }
@@ -68,7 +70,7 @@ impl<'p> Worklist<'p> {
     }
 
     /// Lets a condition wait, if it doesn't yet. An error is want of memory.
-    fn put(&mut self, k: Reader) -> Result<(), Memory> {
+    fn put(&mut self, k: Reader) -> Result<(), AllocError> {
         if k >= self.waits.len() || k >= self.is_wide.len() || self.waits[k] {
             return Ok(());
         }
@@ -82,7 +84,7 @@ impl<'p> Worklist<'p> {
     }
 
     /// Lets all conditions wait that need the flow of a target. An error is want of memory.
-    pub(crate) fn wake(&mut self, target: Target<'p>) -> Result<(), Memory> {
+    pub(crate) fn wake(&mut self, target: Target<'p>) -> Result<(), AllocError> {
         let mut number = self.readers.last(target);
         'readers: while let Some((reader, before)) = self.readers.at(number) {
             self.put(reader)?;

@@ -7,6 +7,5 @@ mod shapes;
 mod table;
 mod terms;
 
-pub use std::alloc::AllocError as Memory;
 pub use table::Table;
 pub use terms::term;

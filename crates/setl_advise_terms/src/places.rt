@@ -10,13 +10,12 @@ ghost use Rattle.setl_advise_terms.specs.Selected as selected;
 ghost use Rattle.setl_advise_terms.specs.Selected.{at_of, inner, put_in, levels_of};
 ghost use Rattle.setl_advise_terms.specs.code.Plain.{flows_of, plain_at, plain_selected};
 
-use crate::Memory;
 use crate::shapes::flow_at;
 use crate::table::Table;
 use setl_advise_gathering::{Target, name_of};
 use setl_advise_lattice::{Flow, get_flow, images_flow, put_flow, put_images_flow};
 use setl_program::{Place, Selector};
-use std::alloc::Global;
+use std::alloc::{AllocError, Global};
 
 /// A selector by the flow of its expression.
 #[derive(Clone, Copy)]
@@ -54,7 +53,7 @@ fn part(ss: &[Selector], f: Flow) -> Flow
 }
 
 /// A selector by the flow of its expression. An error is want of memory.
-fn selector<'p>(alloc: Global, table: &Table<'p>, s: &'p Selector) -> Result<At, Memory>
+fn selector<'p>(alloc: Global, table: &Table<'p>, s: &'p Selector) -> Result<At, AllocError>
     ensures { IfOk result (λ a. plain_at a ≡ at_of (flows_of table.now) s.now) }
 {
     match s {
@@ -70,7 +69,7 @@ fn levels<'p>(
     table: &Table<'p>,
     ss: &'p [Selector],
     f: Flow,
-) -> Result<Vec<Selected>, Memory>
+) -> Result<Vec<Selected>, AllocError>
     ensures { IfOk result (λ ls. map plain_selected ls.items ≡ levels_of (ats_of (flows_of table.now) (selectors_of ss.now)) (flow_of f)) }
 {
     let mut all = Vec::new(alloc);
@@ -122,7 +121,7 @@ pub(crate) fn after<'p>(
     table: &Table<'p>,
     p: &'p Place,
     y: Flow,
-) -> Result<Flow, Memory>
+) -> Result<Flow, AllocError>
     ensures { IfOk result (λ f. flow_of f ≡ after_flow (flows_of table.now) (plain_place p.now) (flow_of y)) }
 {
     let whole = table.get(Target::Into(name_of(&p.variable)));

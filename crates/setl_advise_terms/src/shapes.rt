@@ -9,18 +9,17 @@ ghost use Rattle.setl_advise_flows.specs.Expressions as expressions;
 ghost use Rattle.setl_advise_lattice.specs.code.Levels.{flow_of, shape_of, shapes_of};
 ghost use Rattle.setl_advise_terms.specs.code.Plain.{flows_of};
 
-use crate::Memory;
 use crate::iterators::{member_shape, of_members, source_flow};
 use crate::table::Table;
 use setl_advise_gathering::{Target, name_of};
 use setl_advise_lattice::{Flow, Kind, Level, Shape, join, op_shape};
 use setl_operators_table::Operator;
 use setl_program::{Binding, Collection, Expr, Link};
-use std::alloc::Global;
+use std::alloc::{AllocError, Global};
 
 /// The shape of an expression. An error is want of memory.
 #[cycle(shape)]
-pub(crate) fn shape<'p>(alloc: Global, table: &Table<'p>, e: &'p Expr) -> Result<Shape, Memory>
+pub(crate) fn shape<'p>(alloc: Global, table: &Table<'p>, e: &'p Expr) -> Result<Shape, AllocError>
     ensures { IfOk result (λ w. shape_of w ≡ expressions.shape_of (flows_of table.now) (plain_expr e.now)) }
 {
     match e {
@@ -55,7 +54,7 @@ pub(crate) fn shapes<'p>(
     alloc: Global,
     table: &Table<'p>,
     es: &'p [Expr],
-) -> Result<Vec<Shape>, Memory>
+) -> Result<Vec<Shape>, AllocError>
     ensures { IfOk result (λ ws. shapes_of ws.items ≡ expressions.shapes_of (flows_of table.now) (plain_exprs es.now)) }
 {
     let mut all = Vec::new(alloc);
@@ -68,7 +67,12 @@ pub(crate) fn shapes<'p>(
 
 /// The shape of an operator over its operands. An error is want of memory.
 #[cycle(shape)]
-fn apply<'p>(alloc: Global, table: &Table<'p>, o: Operator, es: &'p [Expr]) -> Result<Shape, Memory>
+fn apply<'p>(
+    alloc: Global,
+    table: &Table<'p>,
+    o: Operator,
+    es: &'p [Expr],
+) -> Result<Shape, AllocError>
     ensures { IfOk result (λ w. shape_of w ≡ expressions.shape_of (flows_of table.now) (Apply o (plain_exprs es.now))) }
 {
     let ws = shapes(alloc, table, es)?;
@@ -77,7 +81,12 @@ fn apply<'p>(alloc: Global, table: &Table<'p>, o: Operator, es: &'p [Expr]) -> R
 
 /// The shape of links behind an expression of a shape. An error is want of memory.
 #[cycle(shape)]
-fn links<'p>(alloc: Global, table: &Table<'p>, ls: &'p [Link], w: Shape) -> Result<Shape, Memory>
+fn links<'p>(
+    alloc: Global,
+    table: &Table<'p>,
+    ls: &'p [Link],
+    w: Shape,
+) -> Result<Shape, AllocError>
     ensures { IfOk result (λ v. (e : PlainExpr) → expressions.shape_of (flows_of table.now) e ≡ shape_of w → expressions.shape_of (flows_of table.now) (chained e (map plain_link ls.now)) ≡ shape_of v) }
 {
     let mut all = w;
@@ -89,7 +98,7 @@ fn links<'p>(alloc: Global, table: &Table<'p>, ls: &'p [Link], w: Shape) -> Resu
 
 /// The shape of a link behind an expression of a shape. An error is want of memory.
 #[cycle(shape)]
-fn link<'p>(alloc: Global, table: &Table<'p>, l: &'p Link, w: Shape) -> Result<Shape, Memory>
+fn link<'p>(alloc: Global, table: &Table<'p>, l: &'p Link, w: Shape) -> Result<Shape, AllocError>
     ensures { IfOk result (λ v. (e : PlainExpr) → expressions.shape_of (flows_of table.now) e ≡ shape_of w → expressions.shape_of (flows_of table.now) (plain_link l.now e) ≡ shape_of v) }
 {
     match l {
@@ -109,7 +118,12 @@ fn link<'p>(alloc: Global, table: &Table<'p>, l: &'p Link, w: Shape) -> Result<S
 
 /// The shape of a former that collects an expression. An error is want of memory.
 #[cycle(shape)]
-fn former<'p>(alloc: Global, table: &Table<'p>, k: Collection, e: &'p Expr) -> Result<Shape, Memory>
+fn former<'p>(
+    alloc: Global,
+    table: &Table<'p>,
+    k: Collection,
+    e: &'p Expr,
+) -> Result<Shape, AllocError>
     ensures { IfOk result (λ w. shape_of w ≡ operators.Plain (expressions.of_members k (operators.Plain (expressions.flow_at (flows_of table.now) (plain_expr e.now))))) }
 {
     let w = shape(alloc, table, e)?;
@@ -124,7 +138,7 @@ fn selection<'p>(
     k: Collection,
     b: &'p Binding,
     es: &'p [Expr],
-) -> Result<Shape, Memory>
+) -> Result<Shape, AllocError>
     ensures { IfOk result (λ w. shape_of w ≡ operators.Plain (expressions.of_members k (expressions.member_shape (expressions.source_flow (begin_of (plain_binding b.now)) (operators.flows (expressions.shapes_of (flows_of table.now) (plain_exprs es.now))))))) }
 {
     let ws = shapes(alloc, table, es)?;
@@ -133,7 +147,7 @@ fn selection<'p>(
 }
 
 /// The flow of an expression. An error is want of memory.
-pub(crate) fn flow_at<'p>(alloc: Global, table: &Table<'p>, e: &'p Expr) -> Result<Flow, Memory>
+pub(crate) fn flow_at<'p>(alloc: Global, table: &Table<'p>, e: &'p Expr) -> Result<Flow, AllocError>
     ensures { IfOk result (λ f. flow_of f ≡ expressions.flow_at (flows_of table.now) (plain_expr e.now)) }
 {
     Ok(shape(alloc, table, e)?.flow())

@@ -9,11 +9,10 @@ ghost use Rattle.setl_advise_gathering.specs.code.Plain.{plain_target};
 ghost use Rattle.setl_advise_terms.specs.Table.{flow_in};
 ghost use Rattle.setl_advise_terms.specs.code.Plain.{flows_of, plain_table};
 
-use crate::Memory;
 use indexmap::IndexMap;
 use setl_advise_gathering::Target;
 use setl_advise_lattice::{Flow, Level, is, join};
-use std::alloc::Global;
+use std::alloc::{AllocError, Global};
 use std::marker::Model;
 
 /// Flows of targets. One that isn't there has no values. Contracts see the list of targets with their flows.
@@ -55,7 +54,7 @@ impl<'p> Table<'p> {
 
     /// Lets the flow of a target have the values of another one too, and tells whether it had not. An error is want of
     /// memory, and all is as before.
-    pub fn raise(&mut self, target: Target<'p>, f: Flow) -> Result<bool, Memory>
+    pub fn raise(&mut self, target: Target<'p>, f: Flow) -> Result<bool, AllocError>
         ensures stays { IfOk result (λ rose. rose ≡ false → self.new ≡ self.old) }
         ensures below { IfOk result (λ rose. rose ≡ false → plain.Below (flow_of f) (flow_in (plain_table self.old) (plain_target target.entry))) }
         ensures raised { IfOk result (λ rose. rose ≡ true → flows_of self.new ≡ grown.raised (flows_of self.old) (plain_target target.entry) (flow_of f)) }

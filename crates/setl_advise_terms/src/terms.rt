@@ -10,7 +10,6 @@ ghost use Rattle.setl_advise_conditions.specs.Conditions.{Assigned, Updated, Rem
 ghost use Rattle.setl_advise_gathering.specs.code.Plain.{plain_term};
 ghost use Rattle.setl_advise_terms.specs.code.Plain.{flows_of};
 
-use crate::Memory;
 use crate::iterators::source_flow;
 use crate::places::{after, place};
 use crate::shapes::{flow_at, shape, shapes};
@@ -19,7 +18,7 @@ use setl_advise_gathering::{Target, Term};
 use setl_advise_lattice::{Flow, Level, Shape, argument_flow, el, get_flow, op_shape, part};
 use setl_operators_table::Operator;
 use setl_program::{Binding, Expr, Place};
-use std::alloc::Global;
+use std::alloc::{AllocError, Global};
 
 /// The flow of what an iterator runs over. An error is want of memory.
 fn source<'p>(
@@ -27,7 +26,7 @@ fn source<'p>(
     table: &Table<'p>,
     b: &'p Binding,
     es: &'p [Expr],
-) -> Result<Flow, Memory>
+) -> Result<Flow, AllocError>
     ensures { IfOk result (λ f. flow_of f ≡ expressions.source_flow (begin_of (plain_binding b.now)) (flows (expressions.shapes_of (flows_of table.now) (plain_exprs es.now)))) }
 {
     let ws = shapes(alloc, table, es)?;
@@ -35,7 +34,12 @@ fn source<'p>(
 }
 
 /// What a place's variable holds after the value of an expression is put there. An error is want of memory.
-fn assigned<'p>(alloc: Global, table: &Table<'p>, p: &'p Place, e: &'p Expr) -> Result<Flow, Memory>
+fn assigned<'p>(
+    alloc: Global,
+    table: &Table<'p>,
+    p: &'p Place,
+    e: &'p Expr,
+) -> Result<Flow, AllocError>
     ensures { IfOk result (λ f. flow_of f ≡ term_flow (flows_of table.now) (Assigned (plain_place p.now) (plain_expr e.now))) }
 {
     let y = flow_at(alloc, table, e)?;
@@ -49,7 +53,7 @@ fn updated<'p>(
     o: Operator,
     p: &'p Place,
     e: &'p Expr,
-) -> Result<Flow, Memory>
+) -> Result<Flow, AllocError>
     ensures { IfOk result (λ f. flow_of f ≡ term_flow (flows_of table.now) (Updated o (plain_place p.now) (plain_expr e.now))) }
 {
     let w = shape(alloc, table, e)?;
@@ -58,14 +62,14 @@ fn updated<'p>(
 }
 
 /// What a place's variable holds once something was taken from the place. An error is want of memory.
-fn remaining<'p>(alloc: Global, table: &Table<'p>, p: &'p Place) -> Result<Flow, Memory>
+fn remaining<'p>(alloc: Global, table: &Table<'p>, p: &'p Place) -> Result<Flow, AllocError>
     ensures { IfOk result (λ f. flow_of f ≡ term_flow (flows_of table.now) (Remaining (plain_place p.now))) }
 {
     after(alloc, table, p, place(table, p))
 }
 
 /// The flow of a term, by the flows of variables and results. An error is want of memory.
-pub fn term<'p>(alloc: Global, table: &Table<'p>, t: Term<'p>) -> Result<Flow, Memory>
+pub fn term<'p>(alloc: Global, table: &Table<'p>, t: Term<'p>) -> Result<Flow, AllocError>
     ensures { IfOk result (λ f. flow_of f ≡ term_flow (flows_of table.now) (plain_term t.entry)) }
 {
     match t {

@@ -21,8 +21,7 @@ mod tables;
 
 use indexmap::IndexMap;
 use setl_value::Value;
-pub use std::alloc::AllocError as Memory;
-use std::alloc::Global;
+use std::alloc::{AllocError, Global};
 use std::collections::BTreeMap;
 use std::marker::Model;
 use std::ops::Bound;
@@ -69,7 +68,7 @@ impl Base {
     /// No members and no cuts. It takes room for one member.
     ///
     /// The error is want of memory.
-    pub fn new(alloc: Global) -> Result<Base, Memory>
+    pub fn new(alloc: Global) -> Result<Base, AllocError>
         ensures { IfOk result (λ b. b ≡ empty) }
     {
         Ok(Base {
@@ -82,7 +81,7 @@ impl Base {
     /// Puts a value at the end, unless it is a member, and gives its handle.
     ///
     /// The error is want of memory, and then the base is as before.
-    pub fn enter(&mut self, v: Value) -> Result<Elt, Memory>
+    pub fn enter(&mut self, v: Value) -> Result<Elt, AllocError>
         ensures entered { OnOk result (self.new ≡ entered self.old (datum v)) }
         ensures handle { IfOk result (λ e. find self.new (datum v) ≡ Some e) }
         ensures living { IfOk result (λ e. value_of self.new e ≡ Some (datum v)) }

@@ -5,9 +5,10 @@ ghost use Rattle.setl_value.specs.code.DatumOf.{datum};
 ghost use Rattle.setl_base.specs.Base.{find_from};
 ghost use Rattle.setl_base.specs.Tables.{members_of, AreRanks};
 
-use crate::{Elt, Memory};
+use crate::Elt;
 use indexmap::IndexMap;
 use setl_value::Value;
+use std::alloc::AllocError;
 use std::collections::BTreeMap;
 
 // Puts a value that is no member at the end. Where memory is refused, both are as before.
@@ -16,7 +17,7 @@ pub(crate) fn append(
     ranks: &mut BTreeMap<Value, Elt>,
     v: Value,
     e: Elt,
-) -> Result<(), Memory>
+) -> Result<(), AllocError>
     requires ranks { AreRanks table.old ranks.old }
     requires absent { find_from 1 (members_of table.old.entries) (datum v) ≡ None }
     requires number { e.block ≡ length table.old.entries + 1 }

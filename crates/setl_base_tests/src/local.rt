@@ -1,6 +1,7 @@
 //! Fields by object and block.
 
-use setl_local::{Fields, Memory};
+use setl_local::Fields;
+use std::alloc::AllocError;
 use std::process::Abort;
 use std::test::Fail;
 
@@ -31,7 +32,7 @@ const ROWS: [((u32, u64), Row); 12] = [
     ((9, 9), Row::Clear(None)),
 ];
 
-fn set(fields: &mut Fields<u64>, (obj, block): (u32, u64)) -> Result<(), Memory> {
+fn set(fields: &mut Fields<u64>, (obj, block): (u32, u64)) -> Result<(), AllocError> {
     fields.room(obj, block)?;
     fields.set(obj, block);
     Ok(())
@@ -41,7 +42,7 @@ fn put(
     fields: &mut Fields<u64>,
     (obj, block): (u32, u64),
     content: u64,
-) -> Result<Option<u64>, Memory> {
+) -> Result<Option<u64>, AllocError> {
     fields.room(obj, block)?;
     Ok(fields.put(obj, block, content))
 }
@@ -50,7 +51,7 @@ fn check(
     rt: &impl Abort,
     fields: &mut Fields<u64>,
     (place, row): ((u32, u64), Row),
-) -> Result<(), Memory> {
+) -> Result<(), AllocError> {
     let (obj, block) = place;
     match row {
         Row::Set => set(fields, place)?,

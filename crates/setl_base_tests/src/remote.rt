@@ -1,7 +1,7 @@
 //! Vectors of bits and of contents.
 
-use setl_remote::{Bits, Memory, Slots};
-use std::alloc::Global;
+use setl_remote::{Bits, Slots};
+use std::alloc::{AllocError, Global};
 use std::process::Abort;
 use std::test::Fail;
 
@@ -14,7 +14,7 @@ enum Operation {
     Xor,
 }
 
-fn made(alloc: Global, operation: Operation, a: &Bits, b: &Bits) -> Result<Bits, Memory> {
+fn made(alloc: Global, operation: Operation, a: &Bits, b: &Bits) -> Result<Bits, AllocError> {
     match operation {
         Operation::And => Bits::and(alloc, a, b),
         Operation::Or => Bits::or(alloc, a, b),
@@ -29,14 +29,14 @@ fn read(bits: &Bits) -> (bool, bool, u64) {
 }
 
 // The set of two numbers.
-fn both(alloc: Global, number: u64, other: u64) -> Result<Bits, Memory> {
+fn both(alloc: Global, number: u64, other: u64) -> Result<Bits, AllocError> {
     let mut bits = Bits::new(alloc)?;
     bits.put(number, true)?;
     bits.put(other, true)?;
     Ok(bits)
 }
 
-fn operate(rt: &impl Abort, alloc: Global, long: &Bits, short: &Bits) -> Result<(), Memory> {
+fn operate(rt: &impl Abort, alloc: Global, long: &Bits, short: &Bits) -> Result<(), AllocError> {
     for (operation, want) in [
         (Operation::And, (true, false, 1)),
         (Operation::Or, (true, true, 2)),

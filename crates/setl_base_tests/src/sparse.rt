@@ -1,13 +1,13 @@
 //! Sparse tables, and types that hold themselves through a container.
 
 use setl_remote::Slots;
-use setl_sparse::{Memory, SparseMap, SparseSet};
-use std::alloc::Global;
+use setl_sparse::{SparseMap, SparseSet};
+use std::alloc::{AllocError, Global};
 use std::process::Abort;
 use std::test::Fail;
 
 // The set of two numbers.
-fn both(alloc: Global, number: u64, other: u64) -> Result<SparseSet, Memory> {
+fn both(alloc: Global, number: u64, other: u64) -> Result<SparseSet, AllocError> {
     let mut set = SparseSet::new(alloc)?;
     set.put(number)?;
     set.put(other)?;
@@ -19,7 +19,7 @@ fn expect_set(
     alloc: Global,
     set: &SparseSet,
     numbers: &[u64],
-) -> Result<(), Memory> {
+) -> Result<(), AllocError> {
     assert_eq!(rt; set.numbers(alloc)?.as_slice(), numbers);
     Ok(())
 }
@@ -48,13 +48,13 @@ fn put(
     rt: &impl Abort,
     map: &mut SparseMap<u64>,
     (number, content, want): (u64, Option<u64>, Option<u64>),
-) -> Result<(), Memory> {
+) -> Result<(), AllocError> {
     assert_eq!(rt; map.put(number, content)?, want);
     Ok(())
 }
 
 // Only 2 and the greatest number have a content.
-fn expect_map(rt: &impl Abort, alloc: Global, map: &SparseMap<u64>) -> Result<(), Memory> {
+fn expect_map(rt: &impl Abort, alloc: Global, map: &SparseMap<u64>) -> Result<(), AllocError> {
     assert_eq!(rt; map.numbers(alloc)?.as_slice(), [2, u64::MAX].as_slice());
     assert_eq!(rt; (map.test(2), map.test(4)), (true, false));
     assert_eq!(rt; map.get(2).copied(), Some(3));
@@ -94,13 +94,13 @@ fn leaf(nest: &Nest) -> Option<u64> {
     }
 }
 
-fn in_vector(alloc: Global, nest: Nest) -> Result<Nest, Memory> {
+fn in_vector(alloc: Global, nest: Nest) -> Result<Nest, AllocError> {
     let mut slots = Slots::new(alloc)?;
     slots.put(1, Some(nest))?;
     Ok(Nest::Vector(slots))
 }
 
-fn in_table(alloc: Global, nest: Nest) -> Result<Nest, Memory> {
+fn in_table(alloc: Global, nest: Nest) -> Result<Nest, AllocError> {
     let mut map = SparseMap::new(alloc)?;
     map.put(1, Some(nest))?;
     Ok(Nest::Table(map))

@@ -13,8 +13,8 @@ ghost use Rattle.setl_code_events.specs.Notes.{told_name, variable_of, own_told,
 use setl_code::{Body, Code, OwnName, Slot};
 use setl_tree::{Param, Text};
 use setl_value::Value;
-use setl_watch::{Event, Memory};
-use std::alloc::Global;
+use setl_watch::Event;
+use std::alloc::{AllocError, Global};
 
 /// The events of a store of this value in a slot of the body of this number: one, or none where the slot is a former's
 /// own name. The error is want of memory.
@@ -25,7 +25,7 @@ pub fn store_events(
     line: u32,
     slot: Slot,
     value: Option<Value>,
-) -> Result<Vec<Event>, Memory>
+) -> Result<Vec<Event>, AllocError>
     ensures { IfOk result (λ es. map notice_of es.items ≡ store_notices line (told_name (variable_of (plain_code code.now) body slot)) (part value)) }
 {
     let mut events = Vec::new(alloc);
@@ -45,7 +45,7 @@ pub fn call_events(
     body: u32,
     line: u32,
     values: Vec<Option<Value>>,
-) -> Result<Vec<Event>, Memory>
+) -> Result<Vec<Event>, AllocError>
     ensures { IfOk result (λ es. map notice_of es.items ≡ call_notices body (slice_get (plain_code code.now).bodies body) line (map part values.items)) }
 {
     let mut events = Vec::new(alloc);
@@ -64,7 +64,7 @@ fn push_bindings(
     parameters: &[Param],
     line: u32,
     values: Vec<Option<Value>>,
-) -> Result<(), Memory>
+) -> Result<(), AllocError>
     ensures { (n : _) → OnOk result (map notice_of events.new.items ≡ map notice_of events.old.items ++ map noticed (stores_told line (bindings n (map parameter_of parameters.now) (map part values.items)))) }
 {
     let mut values = values.into_iter();
@@ -81,7 +81,7 @@ fn push_bindings(
 
 /// The event of a return of the body of this number. The error is want of memory.
 #[tactic(auto, using(crate::proofs::Names::return_there, crate::proofs::Names::return_none))]
-pub fn return_events(alloc: Global, code: &Code, body: u32) -> Result<Vec<Event>, Memory>
+pub fn return_events(alloc: Global, code: &Code, body: u32) -> Result<Vec<Event>, AllocError>
     ensures { IfOk result (λ es. map notice_of es.items ≡ map noticed (return_told (slice_get (plain_code code.now).bodies body))) }
 {
     let mut events = Vec::new(alloc);

@@ -11,10 +11,15 @@ use crate::words::{alteration_word, begin_words, connective_word, operator_word}
 use setl_code::{Alteration, Body, Bracket, Code, Instr, Slot};
 use setl_operators_table::Operator;
 use setl_program::Collection;
-use setl_value::Memory;
+use std::alloc::AllocError;
 
 /// Adds an instruction of a body.
-pub fn push_instr(into: &mut Vec<u8>, code: &Code, body: &Body, what: &Instr) -> Result<(), Memory>
+pub fn push_instr(
+    into: &mut Vec<u8>,
+    code: &Code,
+    body: &Body,
+    what: &Instr,
+) -> Result<(), AllocError>
     ensures { OnOk result (into.new.items ≡ into.old.items ++ instr_text (bodies_of code.now) (plain_instr (variables_of code.now body.now) what.now)) }
 {
     match what {
@@ -64,7 +69,7 @@ fn push_access(
     code: &Code,
     body: &Body,
     slot: Slot,
-) -> Result<(), Memory>
+) -> Result<(), AllocError>
     ensures { OnOk result (into.new.items ≡ into.old.items ++ (word.now ++ variable_text (plain_slot (variables_of code.now body.now) slot))) }
 {
     push_word(into, word)?;
@@ -72,7 +77,7 @@ fn push_access(
 }
 
 // Adds an operator, and how many operands it has where it may have any number.
-fn push_operate(into: &mut Vec<u8>, o: Operator, n: u32) -> Result<(), Memory>
+fn push_operate(into: &mut Vec<u8>, o: Operator, n: u32) -> Result<(), AllocError>
     ensures { OnOk result (into.new.items ≡ into.old.items ++ operate_text o n) }
 {
     match o {
@@ -90,7 +95,7 @@ fn push_alter(
     a: Alteration,
     slot: Slot,
     brackets: &[Bracket],
-) -> Result<(), Memory>
+) -> Result<(), AllocError>
     ensures { OnOk result (into.new.items ≡ into.old.items ++ (alteration_word (plain_alteration a) ++ 32 ∷ variable_text (plain_slot (variables_of code.now body.now) slot) ++ brackets_text (map plain_bracket brackets.now))) }
 {
     push_word(into, alteration_word(a))?;
@@ -100,7 +105,7 @@ fn push_alter(
 }
 
 // Adds the brackets of selectors.
-fn push_brackets(into: &mut Vec<u8>, brackets: &[Bracket]) -> Result<(), Memory>
+fn push_brackets(into: &mut Vec<u8>, brackets: &[Bracket]) -> Result<(), AllocError>
     ensures { OnOk result (into.new.items ≡ into.old.items ++ brackets_text (map plain_bracket brackets.now)) }
 {
     for b in brackets {
@@ -113,7 +118,7 @@ fn push_brackets(into: &mut Vec<u8>, brackets: &[Bracket]) -> Result<(), Memory>
 }
 
 // Adds the call of the body of this number.
-fn push_call(into: &mut Vec<u8>, code: &Code, n: u32) -> Result<(), Memory>
+fn push_call(into: &mut Vec<u8>, code: &Code, n: u32) -> Result<(), AllocError>
     ensures { OnOk result (into.new.items ≡ into.old.items ++ (codes "call " ++ name_at n (bodies_of code.now))) }
 {
     push_word(into, "call ")?;

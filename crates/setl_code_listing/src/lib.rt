@@ -16,13 +16,12 @@ use crate::instructions::push_instr;
 use crate::texts::push_word;
 use setl_code::{Body, Code, Step};
 use setl_text::push_decimal;
-use setl_value::Memory;
-use std::alloc::Global;
+use std::alloc::{AllocError, Global};
 
 /// The text of code: for each body, the main program's first, a line `main:` or `proc NAME:`, and below it a line for
 /// each step, with the number of the step in its body, from 0, and its instruction. It takes time and memory in
 /// proportion to the code and its text. The error is want of memory.
-pub fn listing(alloc: Global, code: &Code) -> Result<Vec<u8>, Memory>
+pub fn listing(alloc: Global, code: &Code) -> Result<Vec<u8>, AllocError>
     ensures { IfOk result (λ t. t.items ≡ listing (plain_code code.now)) }
 {
     let mut into = Vec::new(alloc);
@@ -31,7 +30,7 @@ pub fn listing(alloc: Global, code: &Code) -> Result<Vec<u8>, Memory>
 }
 
 // Adds all bodies.
-fn push_bodies(into: &mut Vec<u8>, code: &Code) -> Result<(), Memory>
+fn push_bodies(into: &mut Vec<u8>, code: &Code) -> Result<(), AllocError>
     ensures { OnOk result (into.new.items ≡ into.old.items ++ listing (plain_code code.now)) }
 {
     let bodies = code.bodies.as_slice();
@@ -47,7 +46,7 @@ fn push_bodies(into: &mut Vec<u8>, code: &Code) -> Result<(), Memory>
 }
 
 // Adds the body of a procedure.
-fn push_procedure(into: &mut Vec<u8>, code: &Code, body: &Body) -> Result<(), Memory>
+fn push_procedure(into: &mut Vec<u8>, code: &Code, body: &Body) -> Result<(), AllocError>
     ensures { OnOk result (into.new.items ≡ into.old.items ++ body_text (bodies_of code.now) (codes "proc " ++ body.now.name ++ 58 ∷ []) (body_of code.now body.now)) }
 {
     push_word(into, "proc ")?;
@@ -57,7 +56,7 @@ fn push_procedure(into: &mut Vec<u8>, code: &Code, body: &Body) -> Result<(), Me
 }
 
 // Adds the steps of a body.
-fn push_steps(into: &mut Vec<u8>, code: &Code, body: &Body) -> Result<(), Memory>
+fn push_steps(into: &mut Vec<u8>, code: &Code, body: &Body) -> Result<(), AllocError>
     ensures { OnOk result (into.new.items ≡ into.old.items ++ steps_text (bodies_of code.now) 0 (body_of code.now body.now).steps) }
 {
     let steps = body.steps.as_slice();
@@ -74,7 +73,7 @@ fn push_step(
     body: &Body,
     at: usize,
     step: &Step,
-) -> Result<(), Memory>
+) -> Result<(), AllocError>
     ensures { OnOk result (into.new.items ≡ into.old.items ++ (decimal at ++ 32 ∷ instr_text (bodies_of code.now) (plain_instr (variables_of code.now body.now) step.now.what) ++ 10 ∷ [])) }
 {
     push_decimal(into, at as u64)?;

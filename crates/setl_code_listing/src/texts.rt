@@ -8,17 +8,17 @@ ghost use Rattle.setl_code.specs.Listing.{numbered};
 
 use setl_text::push_decimal;
 use setl_tree::Text;
-use setl_value::Memory;
+use std::alloc::AllocError;
 
 /// Adds a word.
-pub fn push_word(into: &mut Vec<u8>, word: &str) -> Result<(), Memory>
+pub fn push_word(into: &mut Vec<u8>, word: &str) -> Result<(), AllocError>
     ensures { OnOk result (into.new.items ≡ into.old.items ++ word.now) }
 {
     into.extend_from_slice(word.as_bytes())
 }
 
 /// Adds a word, a blank, and a number in decimal.
-pub fn push_numbered(into: &mut Vec<u8>, word: &str, n: u32) -> Result<(), Memory>
+pub fn push_numbered(into: &mut Vec<u8>, word: &str, n: u32) -> Result<(), AllocError>
     ensures { OnOk result (into.new.items ≡ into.old.items ++ numbered word.now n) }
 {
     push_word(into, word)?;
@@ -27,7 +27,7 @@ pub fn push_numbered(into: &mut Vec<u8>, word: &str, n: u32) -> Result<(), Memor
 }
 
 /// Adds the word for an integer, and the integer in decimal.
-pub fn push_integer(into: &mut Vec<u8>, n: i128) -> Result<(), Memory>
+pub fn push_integer(into: &mut Vec<u8>, n: i128) -> Result<(), AllocError>
     ensures { OnOk result (into.new.items ≡ into.old.items ++ (codes "int " ++ signed_decimal n)) }
 {
     push_word(into, "int ")?;
@@ -35,7 +35,7 @@ pub fn push_integer(into: &mut Vec<u8>, n: i128) -> Result<(), Memory>
 }
 
 /// Adds the word for a string, and the string between apostrophes with each apostrophe in it doubled.
-pub fn push_string(into: &mut Vec<u8>, t: &Text) -> Result<(), Memory>
+pub fn push_string(into: &mut Vec<u8>, t: &Text) -> Result<(), AllocError>
     ensures { OnOk result (into.new.items ≡ into.old.items ++ (codes "str " ++ inner_text (text t.now))) }
 {
     push_word(into, "str ")?;

@@ -5,12 +5,11 @@ use setl_code_listing::listing;
 use setl_operators_table::Operator;
 use setl_program::{Collection, Connective, Source, Taking};
 use setl_tree::{Boxed, Items, Param, Passing, Text};
-use setl_value::Memory;
-use std::alloc::Global;
+use std::alloc::{AllocError, Global};
 use std::test::Fail;
 
 /// Adds steps of line 1.
-fn push(steps: &mut Items<Step>, instrs: Vec<Instr>) -> Result<(), Memory> {
+fn push(steps: &mut Items<Step>, instrs: Vec<Instr>) -> Result<(), AllocError> {
     for what in instrs {
         steps.push(Step { line: 1, what })?;
     }
@@ -18,7 +17,7 @@ fn push(steps: &mut Items<Step>, instrs: Vec<Instr>) -> Result<(), Memory> {
 }
 
 /// A main program that calls a procedure.
-fn main_body(alloc: Global) -> Result<Body, Memory> {
+fn main_body(alloc: Global) -> Result<Body, AllocError> {
     let mut steps = Items::new(alloc);
     push(
         &mut steps,
@@ -33,7 +32,7 @@ fn main_body(alloc: Global) -> Result<Body, Memory> {
 }
 
 /// The parameter and the names of a procedure: one of its own, and one of a former.
-fn names(alloc: Global) -> Result<(Items<Param>, Items<OwnName>), Memory> {
+fn names(alloc: Global) -> Result<(Items<Param>, Items<OwnName>), AllocError> {
     let parameter = Param {
         passing: Passing::Rd,
         name: Text::of(alloc, b"f")?,
@@ -48,7 +47,7 @@ fn names(alloc: Global) -> Result<(Items<Param>, Items<OwnName>), Memory> {
 }
 
 /// A string, and updates.
-fn values(alloc: Global) -> Result<Vec<Instr>, Memory> {
+fn values(alloc: Global) -> Result<Vec<Instr>, AllocError> {
     let string = Text::of(alloc, b"it's")?;
     let brackets = vec![in alloc; Bracket::Brace, Bracket::Round]?;
     let first = Alteration::TakeOut(Taking::TakeFirst);
@@ -65,7 +64,7 @@ fn values(alloc: Global) -> Result<Vec<Instr>, Memory> {
 }
 
 /// Variables, the last of which has no name.
-fn variables(alloc: Global) -> Result<Vec<Instr>, Memory> {
+fn variables(alloc: Global) -> Result<Vec<Instr>, AllocError> {
     Ok(vec![in alloc;
         Instr::Load(Slot::Own(0)),
         Instr::Take(Slot::Own(1)),
@@ -76,7 +75,7 @@ fn variables(alloc: Global) -> Result<Vec<Instr>, Memory> {
 }
 
 /// Other steps.
-fn others(alloc: Global) -> Result<Vec<Instr>, Memory> {
+fn others(alloc: Global) -> Result<Vec<Instr>, AllocError> {
     Ok(vec![in alloc;
         Instr::Integer(Literal::new(-7)),
         Instr::Operate(Operator::FoldAdd, 1),
@@ -91,7 +90,7 @@ fn others(alloc: Global) -> Result<Vec<Instr>, Memory> {
 }
 
 /// The steps of the procedure, which no run would get through.
-fn procedure_steps(alloc: Global) -> Result<Items<Step>, Memory> {
+fn procedure_steps(alloc: Global) -> Result<Items<Step>, AllocError> {
     let mut steps = Items::new(alloc);
     push(&mut steps, values(alloc)?)?;
     push(&mut steps, variables(alloc)?)?;
@@ -100,7 +99,7 @@ fn procedure_steps(alloc: Global) -> Result<Items<Step>, Memory> {
 }
 
 /// Two bodies.
-fn two_bodies(alloc: Global) -> Result<Code, Memory> {
+fn two_bodies(alloc: Global) -> Result<Code, AllocError> {
     let (parameters, names) = names(alloc)?;
     let procedure = Body {
         name: Text::of(alloc, b"p")?,

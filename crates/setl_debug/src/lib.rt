@@ -12,4 +12,3 @@ mod until;
 
 pub use laws::back_undoes_on;
 pub use sessions::{Ended, session};
-pub use std::alloc::AllocError as Memory;

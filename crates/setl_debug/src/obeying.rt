@@ -5,14 +5,14 @@ ghost use Rattle.setl_debug.specs.Sessions.{Does, IsPart};
 ghost use Rattle.setl_debug_script.specs.Scripts.{IsInRange};
 ghost use Rattle.setl_debug_script.specs.declared.command.Command.TheVariants as command;
 
-use crate::Memory;
 use crate::place::Place;
 use crate::until::{MOST_TURNS, until};
 use setl_debug_script::Command;
 use setl_debug_target::Target;
+use std::alloc::AllocError;
 
 /// Adds where the program is after so many turns, and what its variables hold. The error is want of memory.
-fn show<T: Target>(target: &mut T, at: Place, into: &mut Vec<u8>) -> Result<(), Memory>
+fn show<T: Target>(target: &mut T, at: Place, into: &mut Vec<u8>) -> Result<(), AllocError>
     requires { at.turns < 2 ^ 63 }
     ensures told { OnOk result ((told : List ℕ) × IsPart (T.shows (T.run target.old)) (λ s. s.shown) at.turns told × (into.new.items ≡ into.old.items ++ told)) }
     ensures run { T.run target.new ≡ T.run target.old }
@@ -22,7 +22,7 @@ fn show<T: Target>(target: &mut T, at: Place, into: &mut Vec<u8>) -> Result<(), 
 }
 
 /// Adds what the program has written after so many turns. The error is want of memory.
-fn output<T: Target>(target: &mut T, at: Place, into: &mut Vec<u8>) -> Result<(), Memory>
+fn output<T: Target>(target: &mut T, at: Place, into: &mut Vec<u8>) -> Result<(), AllocError>
     requires { at.turns < 2 ^ 63 }
     ensures told { OnOk result ((told : List ℕ) × IsPart (T.shows (T.run target.old)) (λ s. s.written) at.turns told × (into.new.items ≡ into.old.items ++ told)) }
     ensures run { T.run target.new ≡ T.run target.old }
@@ -32,7 +32,7 @@ fn output<T: Target>(target: &mut T, at: Place, into: &mut Vec<u8>) -> Result<()
 }
 
 /// Adds how often each procedure was called after so many turns. The error is want of memory.
-fn profile<T: Target>(target: &mut T, at: Place, into: &mut Vec<u8>) -> Result<(), Memory>
+fn profile<T: Target>(target: &mut T, at: Place, into: &mut Vec<u8>) -> Result<(), AllocError>
     requires { at.turns < 2 ^ 63 }
     ensures told { OnOk result ((told : List ℕ) × IsPart (T.shows (T.run target.old)) (λ s. s.profile) at.turns told × (into.new.items ≡ into.old.items ++ told)) }
     ensures run { T.run target.new ≡ T.run target.old }
@@ -47,7 +47,7 @@ fn go_until<T: Target>(
     at: Place,
     line: u32,
     into: &mut Vec<u8>,
-) -> Result<Place, Memory>
+) -> Result<Place, AllocError>
     requires { at.turns < 2 ^ 63 }
     ensures does { IfOk result (λ next. (told : List ℕ) × Does (T.shows (T.run target.old)) (command.Until line) at.turns told next.turns × (into.new.items ≡ into.old.items ++ told)) }
     ensures small { IfOk result (λ next. next.turns < 2 ^ 63) }
@@ -71,7 +71,7 @@ pub(crate) fn obey<T: Target>(
     command: &Command,
     at: Place,
     into: &mut Vec<u8>,
-) -> Result<Place, Memory>
+) -> Result<Place, AllocError>
     requires small { at.turns < 2 ^ 63 }
     requires in_range { IsInRange command.now }
     ensures does { IfOk result (λ next. (told : List ℕ) × Does (T.shows (T.run target.old)) command.now at.turns told next.turns × (into.new.items ≡ into.old.items ++ told)) }

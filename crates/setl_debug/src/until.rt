@@ -4,8 +4,8 @@ ghost use Rattle.std.specs.Prelude.{◌≡◌, ◌<◌, ◌≤◌, ◌-◌, ◌^
 ghost use Rattle.setl_debug.specs.Sessions.{FirstHit, NoHit, far_end};
 ghost use Rattle.setl_debug.specs.code.Hits.{HasHits, IsHigh, IsLow, Rises};
 
-use crate::Memory;
 use setl_debug_target::Target;
+use std::alloc::AllocError;
 
 /// The greatest number of turns.
 pub(crate) const MOST_TURNS: u64 = (1 << 63) - 1;
@@ -17,7 +17,7 @@ const FAR: u64 = 1 << 20;
 const NEAR: u64 = 1 << 10;
 
 /// How often a line was stored at after so many turns. The error is want of memory.
-fn hits_at<T: Target>(target: &mut T, line: u32, turns: u64) -> Result<u64, Memory>
+fn hits_at<T: Target>(target: &mut T, line: u32, turns: u64) -> Result<u64, AllocError>
     requires { turns < 2 ^ 63 }
     ensures hits { IfOk result (λ hits. HasHits (T.shows (T.run target.old)) line hits turns) }
     ensures run { T.run target.new ≡ T.run target.old }
@@ -34,7 +34,7 @@ fn by_halves<T: Target>(
     hits: u64,
     low: u64,
     high: u64,
-) -> Result<u64, Memory>
+) -> Result<u64, AllocError>
     requires order { low < high }
     requires small { high < 2 ^ 63 }
     requires low { IsLow (T.shows (T.run target.old)) line hits low }
@@ -63,7 +63,7 @@ fn search<T: Target>(
     hits: u64,
     low: u64,
     end: u64,
-) -> Result<Option<u64>, Memory>
+) -> Result<Option<u64>, AllocError>
     requires order { low ≤ end }
     requires small { end < 2 ^ 63 }
     requires low { IsLow (T.shows (T.run target.old)) line hits low }
@@ -84,7 +84,11 @@ fn search<T: Target>(
 
 /// The first number of turns above this one, up to 2^20 more and below 2^63, at which a line was stored at more often.
 /// `None` comes exactly where there is none; the error is want of memory.
-pub(crate) fn until<T: Target>(target: &mut T, line: u32, turns: u64) -> Result<Option<u64>, Memory>
+pub(crate) fn until<T: Target>(
+    target: &mut T,
+    line: u32,
+    turns: u64,
+) -> Result<Option<u64>, AllocError>
     requires { turns < 2 ^ 63 }
     ensures found { IfOk result (λ o. MatchOption o (NoHit (T.shows (T.run target.old)) line turns) (FirstHit (T.shows (T.run target.old)) line turns)) }
     ensures run { T.run target.new ≡ T.run target.old }

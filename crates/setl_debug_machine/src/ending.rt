@@ -4,12 +4,12 @@ ghost use Rattle.std.specs.Prelude.{◌<◌, ◌^◌, IfOk, IfSome};
 ghost use Rattle.setl_debug_machine.specs.code.Machines.{EndsIn, StandsAfter};
 ghost use Rattle.setl_debug_machine.specs.code.Walks.{EndsAhead, GoesOn, IsAtTurns, IsFollower, IsLast, IsReady, IsWalk, most_turns};
 
-use crate::Memory;
 use crate::follower::{Ending, Follower, Standing, follower_at};
 use crate::machine::{Stepped, step};
 use crate::subject::Subject;
 use crate::walk::{MOST_TURNS, Walk};
 use setl_machine::End;
+use std::alloc::AllocError;
 
 /// A follower that has the slots of the last state of a run with so many turns, and how that run ends.
 #[derive(Drop)]
@@ -46,7 +46,7 @@ fn on_the_way<'p>(
     walk: &Walk<'p>,
     follower: Option<Follower<'p>>,
     turns: u64,
-) -> Result<Last<'p>, Memory>
+) -> Result<Last<'p>, AllocError>
     requires ready { IsReady subject.now }
     requires turns { turns < 2 ^ 63 }
     requires walk { IsWalk subject.now.declarations subject.now.input.items walk.now }
@@ -74,7 +74,7 @@ fn end_run<'p>(
     walk: &Walk<'p>,
     follower: Follower<'p>,
     turns: u64,
-) -> Result<Last<'p>, Memory>
+) -> Result<Last<'p>, AllocError>
     requires ready { IsReady subject.now }
     requires turns { turns < 2 ^ 63 }
     requires walk { IsWalk subject.now.declarations subject.now.input.items walk.now }
@@ -107,7 +107,7 @@ fn at_the_end<'p>(
     walk: &Walk<'p>,
     follower: Option<Follower<'p>>,
     turns: u64,
-) -> Result<Last<'p>, Memory>
+) -> Result<Last<'p>, AllocError>
     requires ready { IsReady subject.now }
     requires turns { turns < 2 ^ 63 }
     requires walk { IsWalk subject.now.declarations subject.now.input.items walk.now }
@@ -136,7 +136,7 @@ pub(crate) fn last_state<'p>(
     walk: &Walk<'p>,
     follower: Option<Follower<'p>>,
     turns: u64,
-) -> Result<Last<'p>, Memory>
+) -> Result<Last<'p>, AllocError>
     requires ready { IsReady subject.now }
     requires turns { turns < 2 ^ 63 }
     requires walk { IsWalk subject.now.declarations subject.now.input.items walk.now }

@@ -5,11 +5,11 @@ ghost use Rattle.setl_debug_machine.specs.code.Machines.{StandsAfter};
 ghost use Rattle.setl_debug_machine.specs.code.Walks.{GoesSoFar, IsFollower, IsReady, IsStandingBefore, most_turns};
 ghost use Rattle.setl_debug_machine.specs.declared.follower.Standing.TheVariants as standing;
 
-use crate::Memory;
 use crate::machine::{Machine, Stepped, step};
 use crate::subject::{Subject, started};
 use crate::walk::MOST_TURNS;
 use setl_machine::End;
+use std::alloc::AllocError;
 
 /// How a run ended, and the number of the body that was at work there.
 #[derive(Clone, Copy)]
@@ -40,7 +40,7 @@ fn follow(
     subject: &Subject<'_>,
     from: u64,
     to: u64,
-) -> Result<(), Memory>
+) -> Result<(), AllocError>
     requires order { from ≤ to }
     requires so_far { GoesSoFar subject.now.declarations subject.now.input.items to }
     requires stands { StandsAfter subject.now.declarations subject.now.input.items most_turns from machine.old }
@@ -71,7 +71,7 @@ fn follower_before<'p>(
     subject: &Subject<'p>,
     follower: Option<Follower<'p>>,
     steps: u64,
-) -> Result<Follower<'p>, Memory>
+) -> Result<Follower<'p>, AllocError>
     requires ready { IsReady subject.now }
     requires follower { IfSome follower (IsFollower subject.now.declarations subject.now.input.items) }
     ensures follower { IfOk result (IsFollower subject.now.declarations subject.now.input.items) }
@@ -94,7 +94,7 @@ pub(crate) fn follower_at<'p>(
     subject: &Subject<'p>,
     follower: Option<Follower<'p>>,
     steps: u64,
-) -> Result<Follower<'p>, Memory>
+) -> Result<Follower<'p>, AllocError>
     requires ready { IsReady subject.now }
     requires so_far { GoesSoFar subject.now.declarations subject.now.input.items steps }
     requires follower { IfSome follower (IsFollower subject.now.declarations subject.now.input.items) }

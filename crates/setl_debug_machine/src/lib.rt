@@ -16,4 +16,3 @@ mod telling;
 mod walk;
 
 pub use run::ProgramRun;
-pub use std::alloc::AllocError as Memory;

@@ -6,7 +6,6 @@ ghost use Rattle.setl_code.specs.CodeCore.{CodeCore};
 ghost use Rattle.setl_machine_control.specs.Declaring.{Serves};
 ghost use Rattle.setl_debug_machine.specs.code.Machines.{StandsAt, StepsTo, Writes, stepped_by};
 
-use crate::Memory;
 use setl_code_declared::declared_variables_fit;
 use setl_code_events::events_are;
 use setl_io::{SureSink, SureSource};
@@ -34,7 +33,7 @@ pub(crate) enum Stepped {
 }
 
 /// What a step did, by what it told. The error is want of memory.
-fn stepped_by(told: Result<Vec<Event>, End>) -> Result<Stepped, Memory>
+fn stepped_by(told: Result<Vec<Event>, End>) -> Result<Stepped, AllocError>
     ensures { result ≡ stepped_by told }
 {
     match told {
@@ -50,7 +49,7 @@ fn stepped_by(told: Result<Vec<Event>, End>) -> Result<Stepped, Memory>
 pub(crate) fn step(
     machine: &mut Machine<'_>,
     declarations: &Declarations<'_>,
-) -> Result<Stepped, Memory>
+) -> Result<Stepped, AllocError>
     requires no_fault { machine.old.control.reader.fault ≡ None }
     requires serves { Serves declarations.now machine.old.store }
     ensures steps { (s : State CodeCore) → StandsAt declarations.now s machine.old → IfOk result (StepsTo declarations.now s machine.new) }

@@ -3,11 +3,11 @@
 ghost use Rattle.std.specs.Prelude.{◌≡◌, ◌<◌, ◌^◌, OnErr, OnOk};
 ghost use Rattle.setl_debug_machine.specs.code.Walks.{AddsPart, IsReady, StandsThere, run_by};
 
-use crate::Memory;
 use crate::seeing::walk_seeing;
 use crate::subject::Subject;
 use crate::walk::{Place, Walk, written};
 use setl_watch::Watcher;
+use std::alloc::AllocError;
 
 /// Adds what was written up to the state at a place, where the walk stands if there is one. The error is want of memory,
 /// and then `into` is as before.
@@ -16,7 +16,7 @@ pub(crate) fn push_written<'p>(
     walk: &Option<Walk<'p>>,
     place: Place,
     into: &mut Vec<u8>,
-) -> Result<(), Memory>
+) -> Result<(), AllocError>
     requires ready { IsReady subject.now }
     requires few { place.turns < 2 ^ 63 }
     requires there { StandsThere (run_by subject.now) walk.now place }
@@ -39,7 +39,7 @@ pub(crate) fn push_profile<'p>(
     walk: &Option<Walk<'p>>,
     place: Place,
     into: &mut Vec<u8>,
-) -> Result<(), Memory>
+) -> Result<(), AllocError>
     requires ready { IsReady subject.now }
     requires few { place.turns < 2 ^ 63 }
     requires there { StandsThere (run_by subject.now) walk.now place }

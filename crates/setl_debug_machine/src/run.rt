@@ -11,7 +11,6 @@ ghost use Rattle.setl_debug_machine.specs.Growing.{HasScreen, more_turns_more_hi
 ghost use Rattle.setl_debug_machine.specs.Runs.{run_of};
 ghost use Rattle.setl_debug_machine.specs.Screens.{PlainRun};
 
-use crate::Memory;
 use crate::follower::Follower;
 use crate::parts::{push_profile, push_written};
 use crate::seeing::walk_seeing;
@@ -22,7 +21,7 @@ use setl_code::Code;
 use setl_debug_target::Target;
 use setl_machine::Declarations;
 use setl_program::Program;
-use std::alloc::Global;
+use std::alloc::{AllocError, Global};
 use std::marker::Model;
 
 /// The run of a program on an input in memory, of which one state at a time is looked at.
@@ -66,7 +65,7 @@ impl<'p> ProgramRun<'p> {
         input: Vec<u8>,
         based: bool,
         bases: u32,
-    ) -> Result<ProgramRun<'p>, Memory>
+    ) -> Result<ProgramRun<'p>, AllocError>
         requires may_run { MayRun code.now }
         requires bare { IsBare (plain_code code.now) }
         requires main { AreOfMain (plain_program program.now).modes }
@@ -104,7 +103,7 @@ impl<'p> Target for ProgramRun<'p> {
 
     ghost hits_grow = { more_turns_more_hits };
 
-    fn go(&mut self, turns: u64, line: u32) -> Result<(), Memory> {
+    fn go(&mut self, turns: u64, line: u32) -> Result<(), AllocError> {
         let walk = self.walk.take();
         let walk = walk_seeing(&self.subject, walk, turns, line)?;
         self.place = Some(place_of(&walk, turns));
@@ -119,7 +118,7 @@ impl<'p> Target for ProgramRun<'p> {
         }
     }
 
-    fn show(&mut self, into: &mut Vec<u8>) -> Result<(), Memory> {
+    fn show(&mut self, into: &mut Vec<u8>) -> Result<(), AllocError> {
         let Some(place) = self.place else {
             unreachable!()
         };
@@ -134,14 +133,14 @@ impl<'p> Target for ProgramRun<'p> {
         into.extend_from_slice(&shown)
     }
 
-    fn output(&self, into: &mut Vec<u8>) -> Result<(), Memory> {
+    fn output(&self, into: &mut Vec<u8>) -> Result<(), AllocError> {
         let Some(place) = self.place else {
             unreachable!()
         };
         push_written(&self.subject, &self.walk, place, into)
     }
 
-    fn profile(&self, into: &mut Vec<u8>) -> Result<(), Memory> {
+    fn profile(&self, into: &mut Vec<u8>) -> Result<(), AllocError> {
         let Some(place) = self.place else {
             unreachable!()
         };

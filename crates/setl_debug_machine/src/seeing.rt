@@ -3,10 +3,10 @@
 ghost use Rattle.std.specs.Prelude.{◌≡◌, ◌<◌, ◌^◌, IfOk, IfSome};
 ghost use Rattle.setl_debug_machine.specs.code.Walks.{IsReady, IsWalk, IsAtTurns, Sees, run_by};
 
-use crate::Memory;
 use crate::subject::Subject;
 use crate::walk::{Walk, walk_to};
 use setl_debug_screen::slots_show_the_state;
+use std::alloc::AllocError;
 
 /// A walk at the last state with so many turns, with the stores at this line counted, as `walk_to` gives it: what it tells
 /// is what is seen of the meaning. The error is want of memory.
@@ -15,7 +15,7 @@ pub(crate) fn walk_seeing<'p>(
     walk: Option<Walk<'p>>,
     turns: u64,
     line: u32,
-) -> Result<Walk<'p>, Memory>
+) -> Result<Walk<'p>, AllocError>
     requires ready { IsReady subject.now }
     requires walk { IfSome walk (IsWalk subject.now.declarations subject.now.input.items) }
     requires turns { turns < 2 ^ 63 }

@@ -4,7 +4,6 @@ ghost use Rattle.std.specs.Prelude.{◌<◌, ◌^◌, IfOk, IfSome, IsSome, OnOk
 ghost use Rattle.setl_debug_machine.specs.code.Machines.{EndsIn};
 ghost use Rattle.setl_debug_machine.specs.code.Walks.{AddsPart, IsAtTurns, IsFollower, IsReady, IsWalk, StandsThere, run_by};
 
-use crate::Memory;
 use crate::body::name_of_body;
 use crate::ending::last_state;
 use crate::follower::{Ending, Follower};
@@ -13,6 +12,7 @@ use crate::subject::{Subject, counted};
 use crate::walk::{Place, Walk};
 use setl_debug_screen::{push_place, push_variables, slots_show_the_state};
 use setl_store::Store;
+use std::alloc::AllocError;
 
 /// Adds where the program is after so many turns, and what its variables hold, where the run with so many turns ends so and
 /// the store has the slots of its last state. The error is want of memory, and some may have been added then.
@@ -22,7 +22,7 @@ fn push_slots(
     ending: Ending,
     turns: u64,
     into: &mut Vec<u8>,
-) -> Result<(), Memory>
+) -> Result<(), AllocError>
     requires ready { IsReady subject.now }
     requires ends { EndsIn subject.now.declarations subject.now.input.items turns ending store.now.core }
     ensures { OnOk result (AddsPart (run_by subject.now) turns (λ s. s.shown) into.old.items into.new.items) }
@@ -45,7 +45,7 @@ fn push_state<'p>(
     follower: Option<Follower<'p>>,
     turns: u64,
     into: &mut Vec<u8>,
-) -> Result<Follower<'p>, Memory>
+) -> Result<Follower<'p>, AllocError>
     requires ready { IsReady subject.now }
     requires turns { turns < 2 ^ 63 }
     requires walk { IsWalk subject.now.declarations subject.now.input.items walk.now }
@@ -72,7 +72,7 @@ fn push_followed<'p>(
     follower: &mut Option<Follower<'p>>,
     turns: u64,
     into: &mut Vec<u8>,
-) -> Result<(), Memory>
+) -> Result<(), AllocError>
     requires ready { IsReady subject.now }
     requires turns { turns < 2 ^ 63 }
     requires walk { IsWalk subject.now.declarations subject.now.input.items walk.now }
@@ -91,7 +91,7 @@ fn stand_at<'p>(
     subject: &Subject<'p>,
     walk: &mut Option<Walk<'p>>,
     place: Place,
-) -> Result<(), Memory>
+) -> Result<(), AllocError>
     requires ready { IsReady subject.now }
     requires few { place.turns < 2 ^ 63 }
     requires walk { IfSome walk.old (IsWalk subject.now.declarations subject.now.input.items) }
@@ -113,7 +113,7 @@ pub(crate) fn push_shown<'p>(
     follower: &mut Option<Follower<'p>>,
     place: Place,
     into: &mut Vec<u8>,
-) -> Result<(), Memory>
+) -> Result<(), AllocError>
     requires ready { IsReady subject.now }
     requires few { place.turns < 2 ^ 63 }
     requires walk { IfSome walk.old (IsWalk subject.now.declarations subject.now.input.items) }

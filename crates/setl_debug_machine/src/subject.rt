@@ -7,7 +7,6 @@ ghost use Rattle.setl_program.specs.code.Plain.{plain_declared};
 ghost use Rattle.setl_debug_machine.specs.code.Machines.{StandsAt};
 ghost use Rattle.setl_debug_machine.specs.code.Walks.{IsReady};
 
-use crate::Memory;
 use crate::machine::Machine;
 use setl_code::Code;
 use setl_code_declared::declared_variables_fit;
@@ -15,7 +14,7 @@ use setl_io::{SureSink, SureSource};
 use setl_machine::{Control, Declarations};
 use setl_program::{Declared, Program};
 use setl_store::Store;
-use std::alloc::Global;
+use std::alloc::{AllocError, Global};
 
 /// A program with its code and an input, and whether its declarations count.
 #[derive(Drop)]
@@ -41,7 +40,7 @@ pub(crate) fn counted(program: &Program, based: bool) -> &[Declared]
 }
 
 /// The machine at the first state of the run, with so many turns. The error is want of memory.
-pub(crate) fn started<'p>(subject: &Subject<'p>, turns: u64) -> Result<Machine<'p>, Memory>
+pub(crate) fn started<'p>(subject: &Subject<'p>, turns: u64) -> Result<Machine<'p>, AllocError>
     requires ready { IsReady subject.now }
     requires turns { turns < 2 ^ 63 }
     ensures { IfOk result (StandsAt subject.now.declarations (code_first (plain_code subject.now.declarations.code) subject.now.input.items turns)) }

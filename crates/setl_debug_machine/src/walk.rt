@@ -7,7 +7,6 @@ ghost use Rattle.setl_watch.specs.code.NoticeOf.{notice_of};
 ghost use Rattle.setl_debug_machine.specs.Screens.{after_all};
 ghost use Rattle.setl_debug_machine.specs.code.Walks.{NothingCounted, IsReady, IsWalk, GoesOn, GoesBeyond, IsAtTurns, stores_by, written_by};
 
-use crate::Memory;
 use crate::machine::{Machine, Stepped, step};
 use crate::subject::{Subject, started};
 use crate::telling::tell_all;
@@ -49,7 +48,7 @@ pub(crate) struct Place {
 }
 
 /// Nothing is counted, and the stores will be at this line. The error is want of memory.
-fn nothing_counted(alloc: Global, line: u32) -> Result<Tally, Memory>
+fn nothing_counted(alloc: Global, line: u32) -> Result<Tally, AllocError>
     ensures { IfOk result (NothingCounted line) }
 {
     let mut hits = Hits::new();
@@ -64,7 +63,7 @@ fn nothing_counted(alloc: Global, line: u32) -> Result<Tally, Memory>
 }
 
 /// Counts the events of one step. The error is want of memory, and then nothing is known of the tally.
-fn count(tally: &mut Tally, events: &[Event]) -> Result<(), Memory>
+fn count(tally: &mut Tally, events: &[Event]) -> Result<(), AllocError>
     ensures profile { OnOk result (calls.profile tally.new.profile ≡ after_all (calls.profile tally.old.profile) (map notice_of events.now)) }
     ensures hits { OnOk result (watch.hits tally.new.hits.line tally.new.hits.stores ≡ after_all (watch.hits tally.old.hits.line tally.old.hits.stores) (map notice_of events.now)) }
     ensures line { tally.new.line ≡ tally.old.line }
@@ -81,7 +80,7 @@ fn turns_taken(machine: &Machine<'_>) -> u64
 }
 
 /// A walk at the first state, which counts the stores at this line. The error is want of memory.
-fn walk_from_start<'p>(subject: &Subject<'p>, line: u32) -> Result<Walk<'p>, Memory>
+fn walk_from_start<'p>(subject: &Subject<'p>, line: u32) -> Result<Walk<'p>, AllocError>
     requires { IsReady subject.now }
     ensures walk { IfOk result (IsWalk subject.now.declarations subject.now.input.items) }
     ensures start { IfOk result (λ w. w.tally.turns ≡ 0) }
@@ -121,7 +120,7 @@ fn is_before(walk: &Walk<'_>, turns: u64) -> bool
 
 /// Goes on to the state ahead, and does the step behind it. The error is want of memory, and then nothing is known of the
 /// walk; a state behind 2^64 - 1 steps is answered so, too.
-fn advance<'p>(walk: &mut Walk<'p>, subject: &Subject<'p>) -> Result<(), Memory>
+fn advance<'p>(walk: &mut Walk<'p>, subject: &Subject<'p>) -> Result<(), AllocError>
     requires some { GoesOn walk.old.ahead }
     requires walk { IsWalk subject.now.declarations subject.now.input.items walk.old }
     ensures walk { OnOk result (IsWalk subject.now.declarations subject.now.input.items walk.new) }
@@ -144,7 +143,7 @@ fn advance<'p>(walk: &mut Walk<'p>, subject: &Subject<'p>) -> Result<(), Memory>
 
 /// Goes on to the last state with so many turns. The error is want of memory, and then nothing is known of the walk; a
 /// walk that isn't there after 2^64 - 1 steps is answered so, too.
-fn go_on<'p>(walk: &mut Walk<'p>, subject: &Subject<'p>, turns: u64) -> Result<(), Memory>
+fn go_on<'p>(walk: &mut Walk<'p>, subject: &Subject<'p>, turns: u64) -> Result<(), AllocError>
     requires walk { IsWalk subject.now.declarations subject.now.input.items walk.old }
     requires within { walk.old.tally.turns ≤ turns }
     ensures walk { OnOk result (IsWalk subject.now.declarations subject.now.input.items walk.new) }
@@ -167,7 +166,7 @@ fn walk_before<'p>(
     walk: Option<Walk<'p>>,
     turns: u64,
     line: u32,
-) -> Result<Walk<'p>, Memory>
+) -> Result<Walk<'p>, AllocError>
     requires ready { IsReady subject.now }
     requires walk { IfSome walk (IsWalk subject.now.declarations subject.now.input.items) }
     ensures walk { IfOk result (IsWalk subject.now.declarations subject.now.input.items) }
@@ -190,7 +189,7 @@ pub(crate) fn walk_to<'p>(
     walk: Option<Walk<'p>>,
     turns: u64,
     line: u32,
-) -> Result<Walk<'p>, Memory>
+) -> Result<Walk<'p>, AllocError>
     requires ready { IsReady subject.now }
     requires walk { IfSome walk (IsWalk subject.now.declarations subject.now.input.items) }
     ensures walk { IfOk result (IsWalk subject.now.declarations subject.now.input.items) }

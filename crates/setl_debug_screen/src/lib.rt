@@ -8,5 +8,4 @@ mod variables;
 
 pub use laws::slots_show_the_state;
 pub use place::push_place;
-pub use std::alloc::AllocError as Memory;
 pub use variables::push_variables;

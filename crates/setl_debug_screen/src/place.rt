@@ -5,12 +5,11 @@ ghost use Rattle.setl_program.specs.code.Plain.{plain_declared};
 ghost use Rattle.setl_debug_screen.specs.Lines.{place_text};
 ghost use Rattle.setl_debug_screen.specs.code.Standing.{state_by};
 
-use crate::Memory;
 use crate::stop::stop_line;
 use setl_machine_control::End;
 use setl_program::Declared;
 use setl_top_status::push_number;
-use std::alloc::Global;
+use std::alloc::{AllocError, Global};
 
 /// Adds how a run stands, where these variables are declared: no turn is left, it is done, or it stopped. The error is want
 /// of memory.
@@ -19,7 +18,7 @@ fn push_state(
     declared: &[Declared],
     end: End,
     into: &mut Vec<u8>,
-) -> Result<(), Memory>
+) -> Result<(), AllocError>
     ensures { OnOk result (into.new.items ≡ into.old.items ++ state_by (map plain_declared declared.now) end) }
 {
     match end {
@@ -42,7 +41,7 @@ pub fn push_place(
     declared: &[Declared],
     end: End,
     into: &mut Vec<u8>,
-) -> Result<(), Memory>
+) -> Result<(), AllocError>
     ensures { OnOk result (into.new.items ≡ into.old.items ++ place_text turns name.now (state_by (map plain_declared declared.now) end)) }
 {
     into.extend_from_slice(b"turn ")?;

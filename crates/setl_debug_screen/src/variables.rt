@@ -11,7 +11,6 @@ ghost use Rattle.setl_store.specs.Standing.{variables};
 ghost use Rattle.setl_debug_screen.specs.Lines.{shown_value};
 ghost use Rattle.setl_debug_screen.specs.code.Standing.{named_line, held_line, held_lines};
 
-use crate::Memory;
 use setl_code::{Body, Code, OwnName, Slot};
 use setl_store::Store;
 use setl_text::text;
@@ -20,7 +19,7 @@ use setl_value::Value;
 use std::alloc::{AllocError, Global};
 
 /// Adds a value as it stands inside another one, or `*` for `om`. The error is want of memory.
-fn push_value(alloc: Global, value: &Option<Value>, into: &mut Vec<u8>) -> Result<(), Memory>
+fn push_value(alloc: Global, value: &Option<Value>, into: &mut Vec<u8>) -> Result<(), AllocError>
     ensures { OnOk result (into.new.items ≡ into.old.items ++ shown_value (part value.now)) }
 {
     match value {
@@ -39,7 +38,7 @@ fn push_line(
     slot: Slot,
     name: &[u8],
     into: &mut Vec<u8>,
-) -> Result<(), Memory>
+) -> Result<(), AllocError>
     requires slot { HasSlot (length store.now.core.globals) (length store.now.core.now.own) slot }
     requires there { IsThere (held (plain_slot (variables store.now.core) slot) store.now.core) }
     ensures { OnOk result (into.new.items ≡ into.old.items ++ named_line name.now (held (plain_slot (variables store.now.core) slot) store.now.core)) }
@@ -59,7 +58,7 @@ fn push_global(
     at: u32,
     name: &Text,
     into: &mut Vec<u8>,
-) -> Result<(), Memory>
+) -> Result<(), AllocError>
     requires there { (x : Variable) → IsThere (held x store.now.core) }
     requires here { slice_get (variables store.now.core).global at ≡ Some (OfAll name.now) }
     ensures { OnOk result (into.new.items ≡ into.old.items ++ held_line store.now.core (OfAll name.now)) }
@@ -74,7 +73,7 @@ fn push_own(
     at: u32,
     name: &Text,
     into: &mut Vec<u8>,
-) -> Result<(), Memory>
+) -> Result<(), AllocError>
     requires there { (x : Variable) → IsThere (held x store.now.core) }
     requires here { slice_get (variables store.now.core).own at ≡ Some (Own store.now.core.now.body name.now) }
     ensures { OnOk result (into.new.items ≡ into.old.items ++ held_line store.now.core (Own store.now.core.now.body name.now)) }
@@ -89,7 +88,7 @@ fn push_name(
     at: u32,
     name: &OwnName,
     into: &mut Vec<u8>,
-) -> Result<(), Memory>
+) -> Result<(), AllocError>
     requires there { (x : Variable) → IsThere (held x store.now.core) }
     requires here { slice_get (variables store.now.core).own at ≡ Some (plain_name store.now.core.now.body name.now) }
     ensures { OnOk result (into.new.items ≡ into.old.items ++ held_line store.now.core (plain_name store.now.core.now.body name.now)) }
@@ -106,7 +105,7 @@ fn push_globals(
     store: &Store<'_>,
     names: &[Text],
     into: &mut Vec<u8>,
-) -> Result<(), Memory>
+) -> Result<(), AllocError>
     requires there { (x : Variable) → IsThere (held x store.now.core) }
     requires names { (variables store.now.core).global ≡ map OfAll names.now }
     ensures { OnOk result (into.new.items ≡ into.old.items ++ held_lines (map OfAll names.now) store.now.core) }
@@ -126,7 +125,7 @@ fn push_parameters(
     store: &Store<'_>,
     params: &[Param],
     into: &mut Vec<u8>,
-) -> Result<u32, Memory>
+) -> Result<u32, AllocError>
     requires there { (x : Variable) → IsThere (held x store.now.core) }
     requires names { (names : List Variable) × ((variables store.now.core).own ≡ map (λ p. Own store.now.core.now.body p.name) params.now ++ names) }
     ensures added { OnOk result (into.new.items ≡ into.old.items ++ held_lines (map (λ p. Own store.now.core.now.body p.name) params.now) store.now.core) }
@@ -147,7 +146,7 @@ fn push_names(
     params: u32,
     names: &[OwnName],
     into: &mut Vec<u8>,
-) -> Result<(), Memory>
+) -> Result<(), AllocError>
     requires there { (x : Variable) → IsThere (held x store.now.core) }
     requires names { (before : List Variable) × ((variables store.now.core).own ≡ before ++ map (plain_name store.now.core.now.body) names.now) × (length before ≡ params) }
     ensures { OnOk result (into.new.items ≡ into.old.items ++ held_lines (map (plain_name store.now.core.now.body) names.now) store.now.core) }
@@ -166,7 +165,7 @@ fn push_body(
     store: &Store<'_>,
     body: &Body,
     into: &mut Vec<u8>,
-) -> Result<(), Memory>
+) -> Result<(), AllocError>
     requires there { (x : Variable) → IsThere (held x store.now.core) }
     requires names { (variables store.now.core).own ≡ own_variables store.now.core.now.body body.now.parameters body.now.names }
     ensures { OnOk result (into.new.items ≡ into.old.items ++ held_lines (variables store.now.core).own store.now.core) }
@@ -185,7 +184,11 @@ fn body_of(code: &Code, body: u32) -> Option<&Body>
 
 /// Adds the lines of the variables that all bodies see, and those of the body at work, with what they hold. The error is
 /// want of memory, and some may have been added then.
-pub fn push_variables(alloc: Global, store: &Store<'_>, into: &mut Vec<u8>) -> Result<(), Memory>
+pub fn push_variables(
+    alloc: Global,
+    store: &Store<'_>,
+    into: &mut Vec<u8>,
+) -> Result<(), AllocError>
     requires { (x : Variable) → IsThere (held x store.now.core) }
     ensures { OnOk result (into.new.items ≡ into.old.items ++ (held_lines (variables store.now.core).global store.now.core ++ held_lines (variables store.now.core).own store.now.core)) }
 {

@@ -15,4 +15,3 @@ pub use command::Command;
 pub use fault::ScriptFault;
 pub use reading::read_script;
 pub use script::Script;
-pub use std::alloc::AllocError as Memory;

@@ -8,14 +8,13 @@ ghost use Rattle.setl_debug_script.specs.code.Faults.{Tells};
 ghost use Rattle.setl_debug_script.specs.code.Parts.{SpellsNone, SpellsOne};
 ghost use Rattle.setl_tree.specs.Texts.{IsTextByte};
 
-use crate::Memory;
 use crate::command::Command;
 use crate::fault::ScriptFault;
 use crate::lines::{blank, first_line};
 use crate::number::read_number;
 use crate::script::Script;
 use setl_tree::{Items, Text};
-use std::alloc::Global;
+use std::alloc::{AllocError, Global};
 
 /// Whether these bytes are a word.
 fn is(bytes: &[u8], word: &str) -> bool
@@ -63,7 +62,7 @@ fn by_number(word: &[u8], digits: &[u8]) -> Option<Command>
 
 /// The command with this word before a blank and this value behind it. `None` comes exactly where there is none; the
 /// error is want of memory.
-fn by_value(alloc: Global, word: &[u8], value: &[u8]) -> Result<Option<Command>, Memory>
+fn by_value(alloc: Global, word: &[u8], value: &[u8]) -> Result<Option<Command>, AllocError>
     requires { AllByRecursion IsTextByte value.now }
     ensures { IfOk result (λ o. MatchOption o (SpellsNone word.now (Some value.now)) (SpellsOne word.now (Some value.now))) }
 {
@@ -74,7 +73,7 @@ fn by_value(alloc: Global, word: &[u8], value: &[u8]) -> Result<Option<Command>,
 }
 
 /// The command that a line spells. `None` comes exactly where it spells none; the error is want of memory.
-fn read_command(alloc: Global, line: &[u8]) -> Result<Option<Command>, Memory>
+fn read_command(alloc: Global, line: &[u8]) -> Result<Option<Command>, AllocError>
     requires { AllByRecursion IsTextByte line.now }
     ensures { IfOk result (λ o. MatchOption o (IsFaulty line.now) (IsCommand line.now)) }
 {

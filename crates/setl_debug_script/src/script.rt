@@ -4,10 +4,9 @@ ghost use Rattle.std.specs.Prelude.{◌≡◌, ◌++◌, IfOk, OnOk};
 ghost use Rattle.std.specs.List.{AllByRecursion};
 ghost use Rattle.setl_debug_script.specs.Scripts.{IsInRange, input_line, input_of};
 
-use crate::Memory;
 use crate::command::Command;
 use setl_tree::Items;
-use std::alloc::Global;
+use std::alloc::{AllocError, Global};
 use std::marker::Model;
 
 /// A script, which contracts see as the list of its commands.
@@ -49,7 +48,7 @@ impl Script {
 
     /// What the program reads: the texts of the `input` lines in their order, each with byte 10 behind it. The error is
     /// want of memory.
-    pub fn input(&self, alloc: Global) -> Result<Vec<u8>, Memory>
+    pub fn input(&self, alloc: Global) -> Result<Vec<u8>, AllocError>
         ensures { IfOk result (λ v. v.items ≡ input_of self.now) }
     {
         let mut bytes = Vec::new(alloc);
@@ -61,7 +60,7 @@ impl Script {
 }
 
 /// Adds what a command adds to the input of the program. The error is want of memory.
-fn push_input(into: &mut Vec<u8>, command: &Command) -> Result<(), Memory>
+fn push_input(into: &mut Vec<u8>, command: &Command) -> Result<(), AllocError>
     ensures { OnOk result (into.new.items ≡ into.old.items ++ input_line command.now) }
 {
     if let Command::Input(text) = command {

@@ -3,5 +3,4 @@
 
 mod target;
 
-pub use std::alloc::AllocError as Memory;
 pub use target::Target;

@@ -9,12 +9,12 @@ ghost use Rattle.setl_gen_emitter.specs.Emitted.{held};
 ghost use Rattle.setl_gen.specs.Bodies.{table_of, blank, finished};
 
 use crate::found::{self, Found};
-use crate::{Memory, stmts};
+use crate::stmts;
 use setl_code::{Body, Code, Instr};
 use setl_gen_emitter::{Emitter, Names, number};
 use setl_program::{Procedure, Program, Stmt};
 use setl_tree::{Items, Param, Text, copied_items};
-use std::alloc::Global;
+use std::alloc::{AllocError, Global};
 use std::mem;
 
 /// Begins the body of a number: it has these parameters, and the names in these statements.
@@ -23,7 +23,7 @@ fn begin<'p>(
     body: u32,
     parameters: &'p [Param],
     statements: &'p [Stmt],
-) -> Result<(), Memory>
+) -> Result<(), AllocError>
     ensures { OnOk result (held emitter.new ≡ blank (table_of emitter.old.names.vars body parameters.now (plain_block statements.now))) }
 {
     emitter.names.begin(body, parameters)?;
@@ -37,7 +37,7 @@ fn begin<'p>(
 }
 
 /// The body that was emitted.
-fn finish(emitter: &mut Emitter<'_>, name: &Text) -> Result<Body, Memory>
+fn finish(emitter: &mut Emitter<'_>, name: &Text) -> Result<Body, AllocError>
     ensures body { IfOk result (λ b. plain_body (map run.Global emitter.old.names.vars) emitter.old.names.body b ≡ finished name.now emitter.old.names (held emitter.old)) }
     ensures vars { emitter.new.names ≡ emitter.old.names }
 {
@@ -54,7 +54,7 @@ fn finish(emitter: &mut Emitter<'_>, name: &Text) -> Result<Body, Memory>
 }
 
 /// The body of the main program.
-fn main_body<'p>(emitter: &mut Emitter<'p>, p: &'p Program) -> Result<Body, Memory>
+fn main_body<'p>(emitter: &mut Emitter<'p>, p: &'p Program) -> Result<Body, AllocError>
     ensures body { IfOk result (λ b. plain_body (map run.Global emitter.old.names.vars) 0 b ≡ code.main_body (plain_program p.now)) }
     ensures vars { OnOk result (emitter.new.names.vars ≡ emitter.old.names.vars) }
 {
@@ -66,7 +66,11 @@ fn main_body<'p>(emitter: &mut Emitter<'p>, p: &'p Program) -> Result<Body, Memo
 }
 
 /// The body of a procedure, by its number.
-fn procedure_body<'p>(emitter: &mut Emitter<'p>, n: u32, p: &'p Procedure) -> Result<Body, Memory>
+fn procedure_body<'p>(
+    emitter: &mut Emitter<'p>,
+    n: u32,
+    p: &'p Procedure,
+) -> Result<Body, AllocError>
     ensures body { IfOk result (λ b. plain_body (map run.Global emitter.old.names.vars) n b ≡ code.procedure_body (plain_procedure p.now)) }
     ensures vars { OnOk result (emitter.new.names.vars ≡ emitter.old.names.vars) }
 {
@@ -83,7 +87,7 @@ fn procedures<'p>(
     emitter: &mut Emitter<'p>,
     ps: &'p [Procedure],
     bodies: &mut Items<Body>,
-) -> Result<(), Memory>
+) -> Result<(), AllocError>
     ensures { OnOk result (plain_bodies (map run.Global emitter.old.names.vars) 0 bodies.new ≡ plain_bodies (map run.Global emitter.old.names.vars) 0 bodies.old ++ map code.procedure_body (map plain_procedure ps.now)) }
 {
     for p in ps {
@@ -100,7 +104,7 @@ fn procedures<'p>(
 /// more: of the steps or variables of a body, of the bodies, or of the parts of an expression. In a source of at most 2^24
 /// bytes only the steps could be so many, 256 for each byte. And it is the answer where the program has a variable without
 /// a slot or an iteration without an iterator, which formed and placed programs don't.
-pub fn emit(alloc: Global, program: &Program) -> Result<Code, Memory>
+pub fn emit(alloc: Global, program: &Program) -> Result<Code, AllocError>
     ensures { IfOk result (λ c. plain_code c ≡ code.code_of (plain_program program.now)) }
 {
     let names = Names::new(alloc, program.vars.as_slice())?;

@@ -10,7 +10,6 @@ ghost use Rattle.setl_code.specs.Generated as code;
 ghost use Rattle.setl_gen_emitter.specs.Emitted.{held, here, after};
 ghost use Rattle.setl_gen.specs.Heads.{CodeGoesOn, begun, next, opened, argument_code};
 
-use crate::Memory;
 use setl_code::{Instr, Literal};
 use setl_gen_emitter::{
     Emitter, add_and_go_on, begin, begin_selection, bind, end_undecided, keep_or_drop,
@@ -23,7 +22,7 @@ use std::alloc::AllocError;
 
 /// An expression.
 #[cycle(expr)]
-pub fn expr<'p>(emitter: &mut Emitter<'p>, line: u32, e: &'p Expr) -> Result<(), Memory>
+pub fn expr<'p>(emitter: &mut Emitter<'p>, line: u32, e: &'p Expr) -> Result<(), AllocError>
     ensures { OnOk result (held emitter.new ≡ after (code.expr line (plain_expr e.now)) (held emitter.old)) }
 {
     match e {
@@ -52,7 +51,7 @@ fn chain<'p>(
     line: u32,
     ls: &'p [Link],
     first: &'p Expr,
-) -> Result<(), Memory>
+) -> Result<(), AllocError>
     ensures { OnOk result (held emitter.new ≡ after (code.expr line (chained (plain_expr first.now) (map plain_link ls.now))) (held emitter.old)) }
 {
     expr(emitter, line, first)?;
@@ -68,7 +67,7 @@ fn choose<'p>(
     t: &'p Expr,
     a: &'p Expr,
     b: &'p Expr,
-) -> Result<(), Memory>
+) -> Result<(), AllocError>
     ensures { OnOk result (held emitter.new ≡ after (code.expr line (Choose (plain_expr t.now) (plain_expr a.now) (plain_expr b.now))) (held emitter.old)) }
 {
     expr(emitter, line, t)?;
@@ -90,7 +89,7 @@ fn former<'p>(
     e: &'p Expr,
     is: &'p [Iterator],
     t: &'p Option<Boxed<Expr>>,
-) -> Result<(), Memory>
+) -> Result<(), AllocError>
     ensures { OnOk result (held emitter.new ≡ after (code.expr line (Former collection (plain_expr e.now) (plain_iterators is.now) (condition_of (option_map plain_expr t.now)))) (held emitter.old)) }
 {
     emitter.put(line, Instr::Collect(collection))?;
@@ -111,7 +110,7 @@ fn selection<'p>(
     b: &'p Binding,
     es: &'p [Expr],
     c: &'p Expr,
-) -> Result<(), Memory>
+) -> Result<(), AllocError>
     ensures { OnOk result (held emitter.new ≡ after (code.expr line (Selection collection (plain_binding b.now) (plain_exprs es.now) (plain_expr c.now))) (held emitter.old)) }
 {
     emitter.put(line, Instr::Collect(collection))?;
@@ -131,7 +130,7 @@ fn quantified<'p>(
     quantifier: Quantifier,
     is: &'p [Iterator],
     c: &'p Expr,
-) -> Result<(), Memory>
+) -> Result<(), AllocError>
     ensures { OnOk result (held emitter.new ≡ after (code.expr line (Quantified quantifier (plain_iterators is.now) (plain_expr c.now))) (held emitter.old)) }
 {
     let outer = emitter.enter();
@@ -146,7 +145,7 @@ fn quantified<'p>(
 
 /// Expressions in their order.
 #[cycle(expr)]
-pub fn exprs<'p>(emitter: &mut Emitter<'p>, line: u32, es: &'p [Expr]) -> Result<(), Memory>
+pub fn exprs<'p>(emitter: &mut Emitter<'p>, line: u32, es: &'p [Expr]) -> Result<(), AllocError>
     ensures { OnOk result (held emitter.new ≡ after (code.exprs line (plain_exprs es.now)) (held emitter.old)) }
 {
     for e in es {
@@ -162,7 +161,7 @@ fn apply<'p>(
     line: u32,
     o: Operator,
     es: &'p [Expr],
-) -> Result<(), Memory>
+) -> Result<(), AllocError>
     ensures { OnOk result (held emitter.new ≡ after (code.expr line (Apply o (plain_exprs es.now))) (held emitter.old)) }
 {
     exprs(emitter, line, es)?;
@@ -173,7 +172,7 @@ fn apply<'p>(
 
 /// Links behind an expression.
 #[cycle(expr)]
-fn links<'p>(emitter: &mut Emitter<'p>, line: u32, ls: &'p [Link]) -> Result<(), Memory>
+fn links<'p>(emitter: &mut Emitter<'p>, line: u32, ls: &'p [Link]) -> Result<(), AllocError>
     ensures { OnOk result (CodeGoesOn line (λ e. chained e (map plain_link ls.now)) (held emitter.old) (held emitter.new)) }
 {
     for l in ls {
@@ -184,7 +183,7 @@ fn links<'p>(emitter: &mut Emitter<'p>, line: u32, ls: &'p [Link]) -> Result<(),
 
 /// A link behind an expression.
 #[cycle(expr)]
-fn link<'p>(emitter: &mut Emitter<'p>, line: u32, l: &'p Link) -> Result<(), Memory>
+fn link<'p>(emitter: &mut Emitter<'p>, line: u32, l: &'p Link) -> Result<(), AllocError>
     ensures { OnOk result (CodeGoesOn line (plain_link l.now) (held emitter.old) (held emitter.new)) }
 {
     match l {
@@ -201,7 +200,7 @@ fn link<'p>(emitter: &mut Emitter<'p>, line: u32, l: &'p Link) -> Result<(), Mem
 }
 
 /// An operator behind its one operand.
-fn unary(emitter: &mut Emitter<'_>, line: u32, o: Operator) -> Result<(), Memory>
+fn unary(emitter: &mut Emitter<'_>, line: u32, o: Operator) -> Result<(), AllocError>
     ensures { OnOk result (CodeGoesOn line (one o) (held emitter.old) (held emitter.new)) }
 {
     emitter.put(line, Instr::Operate(o, 1))?;
@@ -210,7 +209,12 @@ fn unary(emitter: &mut Emitter<'_>, line: u32, o: Operator) -> Result<(), Memory
 
 /// An operator with its second operand, behind the first.
 #[cycle(expr)]
-fn binary<'p>(emitter: &mut Emitter<'p>, line: u32, o: Operator, x: &'p Expr) -> Result<(), Memory>
+fn binary<'p>(
+    emitter: &mut Emitter<'p>,
+    line: u32,
+    o: Operator,
+    x: &'p Expr,
+) -> Result<(), AllocError>
     ensures { OnOk result (CodeGoesOn line (λ e. two o e (plain_expr x.now)) (held emitter.old) (held emitter.new)) }
 {
     expr(emitter, line, x)?;
@@ -225,7 +229,7 @@ fn connect<'p>(
     line: u32,
     connective: Connective,
     x: &'p Expr,
-) -> Result<(), Memory>
+) -> Result<(), AllocError>
     ensures { OnOk result (CodeGoesOn line (λ e. Connect connective e (plain_expr x.now)) (held emitter.old) (held emitter.new)) }
 {
     let test = emitter.step(line, Instr::Decide(connective, 0))?;
@@ -237,7 +241,12 @@ fn connect<'p>(
 
 /// An iterator up to its first binding, whose end leads back. It gives the place of the iterator's next step.
 #[cycle(expr)]
-fn head<'p>(emitter: &mut Emitter<'p>, line: u32, i: &'p Iterator, back: u32) -> Result<u32, Memory>
+fn head<'p>(
+    emitter: &mut Emitter<'p>,
+    line: u32,
+    i: &'p Iterator,
+    back: u32,
+) -> Result<u32, AllocError>
     ensures place { IfOk result (λ at. at ≡ here (after (begun line (plain_iterator i.now)) (held emitter.old))) }
     ensures code { OnOk result (held emitter.new ≡ after (next line back (plain_iterator i.now)) (after (begun line (plain_iterator i.now)) (held emitter.old))) }
 {
@@ -257,7 +266,7 @@ pub fn iterators<'p>(
     emitter: &mut Emitter<'p>,
     line: u32,
     is: &'p [Iterator],
-) -> Result<(u32, u32), Memory>
+) -> Result<(u32, u32), AllocError>
     ensures { IfOk result (λ r. opened line (plain_iterators is.now) (held emitter.old) ≡ Some (r.0, held emitter.new, r.1)) }
 {
     let mut first = None;
@@ -279,7 +288,7 @@ fn condition<'p>(
     line: u32,
     t: &'p Option<Boxed<Expr>>,
     back: u32,
-) -> Result<(), Memory>
+) -> Result<(), AllocError>
     ensures { OnOk result (held emitter.new ≡ after (code.condition line (condition_of (option_map plain_expr t.now)) back) (held emitter.old)) }
 {
     match t {
@@ -295,7 +304,7 @@ pub fn tested<'p>(
     line: u32,
     c: &'p Expr,
     back: u32,
-) -> Result<(), Memory>
+) -> Result<(), AllocError>
     ensures { OnOk result (held emitter.new ≡ after (code.condition line (only_if (plain_expr c.now)) back) (held emitter.old)) }
 {
     expr(emitter, line, c)?;
@@ -305,7 +314,7 @@ pub fn tested<'p>(
 
 /// An argument of a call.
 #[cycle(expr)]
-fn argument<'p>(emitter: &mut Emitter<'p>, line: u32, x: &'p Argument) -> Result<(), Memory>
+fn argument<'p>(emitter: &mut Emitter<'p>, line: u32, x: &'p Argument) -> Result<(), AllocError>
     ensures { OnOk result (held emitter.new ≡ after (argument_code line (plain_argument x.now no_argument)) (held emitter.old)) }
 {
     match x {
@@ -317,7 +326,11 @@ fn argument<'p>(emitter: &mut Emitter<'p>, line: u32, x: &'p Argument) -> Result
 
 /// Arguments of a call.
 #[cycle(expr)]
-fn arguments<'p>(emitter: &mut Emitter<'p>, line: u32, all: &'p [Argument]) -> Result<(), Memory>
+fn arguments<'p>(
+    emitter: &mut Emitter<'p>,
+    line: u32,
+    all: &'p [Argument],
+) -> Result<(), AllocError>
     ensures { OnOk result (held emitter.new ≡ after (code.arguments line (plain_arguments all.now)) (held emitter.old)) }
 {
     for x in all {
@@ -328,7 +341,12 @@ fn arguments<'p>(emitter: &mut Emitter<'p>, line: u32, all: &'p [Argument]) -> R
 
 /// A call of a procedure.
 #[cycle(expr)]
-fn call<'p>(emitter: &mut Emitter<'p>, line: u32, f: u32, all: &'p [Argument]) -> Result<(), Memory>
+fn call<'p>(
+    emitter: &mut Emitter<'p>,
+    line: u32,
+    f: u32,
+    all: &'p [Argument],
+) -> Result<(), AllocError>
     ensures { OnOk result (held emitter.new ≡ after (code.expr line (Call f (plain_arguments all.now))) (held emitter.old)) }
 {
     arguments(emitter, line, all)?;

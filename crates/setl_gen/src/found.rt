@@ -10,12 +10,11 @@ ghost use Rattle.setl_code.specs.Names as names;
 ghost use Rattle.setl_gen.specs.StmtKinds.{plain_kind};
 ghost use Rattle.setl_gen.specs.Found.{before, behind, around, part_variables, selector_variables, branch_variables};
 
-use crate::Memory;
 use setl_program::{
     Argument, Binding, Branch, Expr, Iterator, Link, Place, Selector, Stmt, StmtKind, Variable,
 };
 use setl_tree::Boxed;
-use std::alloc::Global;
+use std::alloc::{AllocError, Global};
 use std::marker::Model;
 
 /// Variables in their order. Contracts see the list of them.
@@ -52,7 +51,7 @@ impl<'p> Found<'p> {
     }
 
     /// One more variable.
-    pub fn push(&mut self, x: &'p Variable) -> Result<(), Memory>
+    pub fn push(&mut self, x: &'p Variable) -> Result<(), AllocError>
         ensures { OnOk result (self.new ≡ self.old ++ plain_variable x.now ∷ []) }
     {
         self.variables.push(x)?;
@@ -61,7 +60,7 @@ impl<'p> Found<'p> {
 }
 
 /// A variable, if there is one.
-fn slot<'p>(x: &'p Option<Variable>, all: &mut Found<'p>) -> Result<(), Memory>
+fn slot<'p>(x: &'p Option<Variable>, all: &mut Found<'p>) -> Result<(), AllocError>
     ensures { OnOk result (all.new ≡ all.old ++ variables_in (option_map plain_variable x.now ∷ [])) }
 {
     match x {
@@ -71,7 +70,7 @@ fn slot<'p>(x: &'p Option<Variable>, all: &mut Found<'p>) -> Result<(), Memory>
 }
 
 /// The variables of a list of parts.
-fn slots<'p>(xs: &'p [Option<Variable>], all: &mut Found<'p>) -> Result<(), Memory>
+fn slots<'p>(xs: &'p [Option<Variable>], all: &mut Found<'p>) -> Result<(), AllocError>
     ensures { OnOk result (all.new ≡ all.old ++ variables_in (plain_slots xs.now)) }
 {
     for x in xs {
@@ -81,7 +80,7 @@ fn slots<'p>(xs: &'p [Option<Variable>], all: &mut Found<'p>) -> Result<(), Memo
 }
 
 /// The variables of a binding that stand before its source.
-fn bound_before<'p>(b: &'p Binding, all: &mut Found<'p>) -> Result<(), Memory>
+fn bound_before<'p>(b: &'p Binding, all: &mut Found<'p>) -> Result<(), AllocError>
     ensures { OnOk result (all.new ≡ all.old ++ before (plain_binding b.now)) }
 {
     match b {
@@ -92,7 +91,7 @@ fn bound_before<'p>(b: &'p Binding, all: &mut Found<'p>) -> Result<(), Memory>
 }
 
 /// The variables of a binding that stand behind its source.
-fn bound_behind<'p>(b: &'p Binding, all: &mut Found<'p>) -> Result<(), Memory>
+fn bound_behind<'p>(b: &'p Binding, all: &mut Found<'p>) -> Result<(), AllocError>
     ensures { OnOk result (all.new ≡ all.old ++ behind (plain_binding b.now)) }
 {
     match b {
@@ -104,7 +103,7 @@ fn bound_behind<'p>(b: &'p Binding, all: &mut Found<'p>) -> Result<(), Memory>
 
 /// The variables of an expression.
 #[cycle(found)]
-pub fn expr<'p>(e: &'p Expr, all: &mut Found<'p>) -> Result<(), Memory>
+pub fn expr<'p>(e: &'p Expr, all: &mut Found<'p>) -> Result<(), AllocError>
     ensures { OnOk result (all.new ≡ all.old ++ names.in_expr (plain_expr e.now)) }
 {
     match e {
@@ -148,7 +147,7 @@ pub fn expr<'p>(e: &'p Expr, all: &mut Found<'p>) -> Result<(), Memory>
 
 /// The variables of expressions.
 #[cycle(found)]
-pub fn exprs<'p>(es: &'p [Expr], all: &mut Found<'p>) -> Result<(), Memory>
+pub fn exprs<'p>(es: &'p [Expr], all: &mut Found<'p>) -> Result<(), AllocError>
     ensures { OnOk result (all.new ≡ all.old ++ names.in_exprs (plain_exprs es.now)) }
 {
     for e in es {
@@ -159,7 +158,7 @@ pub fn exprs<'p>(es: &'p [Expr], all: &mut Found<'p>) -> Result<(), Memory>
 
 /// The variables of links: those of what they make of `om`.
 #[cycle(found)]
-fn links<'p>(ls: &'p [Link], all: &mut Found<'p>) -> Result<(), Memory>
+fn links<'p>(ls: &'p [Link], all: &mut Found<'p>) -> Result<(), AllocError>
     ensures { OnOk result (all.new ≡ all.old ++ names.in_expr (chained Undefined (map plain_link ls.now))) }
 {
     for l in ls {
@@ -170,7 +169,7 @@ fn links<'p>(ls: &'p [Link], all: &mut Found<'p>) -> Result<(), Memory>
 
 /// The variables of a link: those of what it makes of `om`.
 #[cycle(found)]
-fn link<'p>(l: &'p Link, all: &mut Found<'p>) -> Result<(), Memory>
+fn link<'p>(l: &'p Link, all: &mut Found<'p>) -> Result<(), AllocError>
     ensures { OnOk result (all.new ≡ all.old ++ names.in_expr (plain_link l.now Undefined)) }
 {
     match l {
@@ -186,7 +185,7 @@ fn link<'p>(l: &'p Link, all: &mut Found<'p>) -> Result<(), Memory>
 
 /// The variables of iterators.
 #[cycle(found)]
-pub fn iterators<'p>(is: &'p [Iterator], all: &mut Found<'p>) -> Result<(), Memory>
+pub fn iterators<'p>(is: &'p [Iterator], all: &mut Found<'p>) -> Result<(), AllocError>
     ensures { OnOk result (all.new ≡ all.old ++ names.in_iterators (plain_iterators is.now)) }
 {
     for i in is {
@@ -197,7 +196,7 @@ pub fn iterators<'p>(is: &'p [Iterator], all: &mut Found<'p>) -> Result<(), Memo
 
 /// The variables of an iterator.
 #[cycle(found)]
-fn iterator<'p>(i: &'p Iterator, all: &mut Found<'p>) -> Result<(), Memory>
+fn iterator<'p>(i: &'p Iterator, all: &mut Found<'p>) -> Result<(), AllocError>
     ensures { OnOk result (all.new ≡ all.old ++ around (plain_iterator i.now)) }
 {
     bound_before(&i.binding, all)?;
@@ -207,7 +206,7 @@ fn iterator<'p>(i: &'p Iterator, all: &mut Found<'p>) -> Result<(), Memory>
 
 /// The variables of a condition.
 #[cycle(found)]
-fn condition<'p>(t: &'p Option<Boxed<Expr>>, all: &mut Found<'p>) -> Result<(), Memory>
+fn condition<'p>(t: &'p Option<Boxed<Expr>>, all: &mut Found<'p>) -> Result<(), AllocError>
     ensures { OnOk result (all.new ≡ all.old ++ names.in_condition (condition_of (option_map plain_expr t.now))) }
 {
     match t {
@@ -218,7 +217,7 @@ fn condition<'p>(t: &'p Option<Boxed<Expr>>, all: &mut Found<'p>) -> Result<(), 
 
 /// The variables of arguments.
 #[cycle(found)]
-fn arguments<'p>(xs: &'p [Argument], all: &mut Found<'p>) -> Result<(), Memory>
+fn arguments<'p>(xs: &'p [Argument], all: &mut Found<'p>) -> Result<(), AllocError>
     ensures { OnOk result (all.new ≡ all.old ++ names.in_arguments (plain_arguments xs.now)) }
 {
     for x in xs {
@@ -229,7 +228,7 @@ fn arguments<'p>(xs: &'p [Argument], all: &mut Found<'p>) -> Result<(), Memory>
 
 /// The variables of an argument.
 #[cycle(found)]
-fn argument<'p>(x: &'p Argument, all: &mut Found<'p>) -> Result<(), Memory>
+fn argument<'p>(x: &'p Argument, all: &mut Found<'p>) -> Result<(), AllocError>
     ensures { OnOk result (all.new ≡ all.old ++ part_variables (plain_argument x.now no_argument)) }
 {
     match x {
@@ -240,7 +239,7 @@ fn argument<'p>(x: &'p Argument, all: &mut Found<'p>) -> Result<(), Memory>
 }
 
 /// The variables of selectors.
-fn selectors<'p>(ss: &'p [Selector], all: &mut Found<'p>) -> Result<(), Memory>
+fn selectors<'p>(ss: &'p [Selector], all: &mut Found<'p>) -> Result<(), AllocError>
     ensures { OnOk result (all.new ≡ all.old ++ names.in_selectors (selectors_of ss.now)) }
 {
     for s in ss {
@@ -250,7 +249,7 @@ fn selectors<'p>(ss: &'p [Selector], all: &mut Found<'p>) -> Result<(), Memory>
 }
 
 /// The variables of a selector.
-fn selector<'p>(s: &'p Selector, all: &mut Found<'p>) -> Result<(), Memory>
+fn selector<'p>(s: &'p Selector, all: &mut Found<'p>) -> Result<(), AllocError>
     ensures { OnOk result (all.new ≡ all.old ++ selector_variables s.now) }
 {
     match s {
@@ -260,7 +259,7 @@ fn selector<'p>(s: &'p Selector, all: &mut Found<'p>) -> Result<(), Memory>
 }
 
 /// The variables of a place.
-fn place<'p>(p: &'p Place, all: &mut Found<'p>) -> Result<(), Memory>
+fn place<'p>(p: &'p Place, all: &mut Found<'p>) -> Result<(), AllocError>
     ensures { OnOk result (all.new ≡ all.old ++ names.in_place (plain_place p.now)) }
 {
     all.push(&p.variable)?;
@@ -268,7 +267,7 @@ fn place<'p>(p: &'p Place, all: &mut Found<'p>) -> Result<(), Memory>
 }
 
 /// Variables.
-fn variables<'p>(xs: &'p [Variable], all: &mut Found<'p>) -> Result<(), Memory>
+fn variables<'p>(xs: &'p [Variable], all: &mut Found<'p>) -> Result<(), AllocError>
     ensures { OnOk result (all.new ≡ all.old ++ map plain_variable xs.now) }
 {
     for x in xs {
@@ -279,7 +278,7 @@ fn variables<'p>(xs: &'p [Variable], all: &mut Found<'p>) -> Result<(), Memory>
 
 /// The variables of statements.
 #[cycle(stmts)]
-pub fn block<'p>(ss: &'p [Stmt], all: &mut Found<'p>) -> Result<(), Memory>
+pub fn block<'p>(ss: &'p [Stmt], all: &mut Found<'p>) -> Result<(), AllocError>
     ensures { OnOk result (all.new ≡ all.old ++ names.in_block (plain_block ss.now)) }
 {
     for s in ss {
@@ -290,7 +289,7 @@ pub fn block<'p>(ss: &'p [Stmt], all: &mut Found<'p>) -> Result<(), Memory>
 
 /// The variables of a statement.
 #[cycle(stmts)]
-fn stmt<'p>(s: &'p Stmt, all: &mut Found<'p>) -> Result<(), Memory>
+fn stmt<'p>(s: &'p Stmt, all: &mut Found<'p>) -> Result<(), AllocError>
     ensures { OnOk result (all.new ≡ all.old ++ names.in_stmt (plain_stmt s.now).1) }
 {
     kind(&s.kind, all)
@@ -298,7 +297,7 @@ fn stmt<'p>(s: &'p Stmt, all: &mut Found<'p>) -> Result<(), Memory>
 
 /// The variables of what a statement is.
 #[cycle(stmts)]
-fn kind<'p>(k: &'p StmtKind, all: &mut Found<'p>) -> Result<(), Memory>
+fn kind<'p>(k: &'p StmtKind, all: &mut Found<'p>) -> Result<(), AllocError>
     ensures { OnOk result (all.new ≡ all.old ++ names.in_stmt (plain_kind k.now)) }
 {
     match k {
@@ -350,7 +349,7 @@ fn kind<'p>(k: &'p StmtKind, all: &mut Found<'p>) -> Result<(), Memory>
 }
 
 /// The variables of a condition, if there is one.
-fn optional<'p>(t: &'p Option<Expr>, all: &mut Found<'p>) -> Result<(), Memory>
+fn optional<'p>(t: &'p Option<Expr>, all: &mut Found<'p>) -> Result<(), AllocError>
     ensures { OnOk result (all.new ≡ all.old ++ names.in_condition (condition_of (option_map plain_expr t.now))) }
 {
     match t {
@@ -361,7 +360,7 @@ fn optional<'p>(t: &'p Option<Expr>, all: &mut Found<'p>) -> Result<(), Memory>
 
 /// The variables of further branches.
 #[cycle(stmts)]
-fn branches<'p>(bs: &'p [Branch], all: &mut Found<'p>) -> Result<(), Memory>
+fn branches<'p>(bs: &'p [Branch], all: &mut Found<'p>) -> Result<(), AllocError>
     ensures { OnOk result (all.new ≡ all.old ++ branch_variables bs.now) }
 {
     for b in bs {

@@ -12,4 +12,3 @@ mod steps;
 mod stmts;
 
 pub use bodies::emit;
-pub use setl_gen_emitter::Memory;

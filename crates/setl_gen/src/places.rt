@@ -9,16 +9,15 @@ ghost use Rattle.setl_code.specs.Plain.{plain_alteration, plain_bracket};
 ghost use Rattle.setl_gen_emitter.specs.Emitted.{held, after};
 ghost use Rattle.setl_gen.specs.StmtKinds.{selector_code, bracket_of};
 
-use crate::Memory;
 use crate::exprs::expr;
 use setl_code::{Alteration, Bracket, Instr};
 use setl_gen_emitter::Emitter;
 use setl_program::{Place, Selector, Variable};
 use setl_tree::{Boxed, Items};
-use std::alloc::Global;
+use std::alloc::{AllocError, Global};
 
 /// A selector.
-fn selector<'p>(emitter: &mut Emitter<'p>, line: u32, s: &'p Selector) -> Result<(), Memory>
+fn selector<'p>(emitter: &mut Emitter<'p>, line: u32, s: &'p Selector) -> Result<(), AllocError>
     ensures { OnOk result (held emitter.new ≡ after (selector_code line s.now) (held emitter.old)) }
 {
     match s {
@@ -28,7 +27,7 @@ fn selector<'p>(emitter: &mut Emitter<'p>, line: u32, s: &'p Selector) -> Result
 }
 
 /// The selectors of a place.
-fn selectors<'p>(emitter: &mut Emitter<'p>, line: u32, ss: &'p [Selector]) -> Result<(), Memory>
+fn selectors<'p>(emitter: &mut Emitter<'p>, line: u32, ss: &'p [Selector]) -> Result<(), AllocError>
     ensures { OnOk result (held emitter.new ≡ after (code.selectors line (selectors_of ss.now)) (held emitter.old)) }
 {
     for s in ss {
@@ -48,7 +47,7 @@ fn bracket(s: &Selector) -> Bracket
 }
 
 /// How selectors are written.
-fn brackets(alloc: Global, ss: &[Selector]) -> Result<Items<Bracket>, Memory>
+fn brackets(alloc: Global, ss: &[Selector]) -> Result<Items<Bracket>, AllocError>
     ensures { IfOk result (λ bs. map plain_bracket bs ≡ code.brackets (selectors_of ss.now)) }
 {
     let mut bs = Items::new(alloc);
@@ -64,7 +63,7 @@ pub fn alter<'p>(
     line: u32,
     a: Alteration,
     p: &'p Place,
-) -> Result<(), Memory>
+) -> Result<(), AllocError>
     ensures { OnOk result (held emitter.new ≡ after (code.alter line (plain_alteration a) (plain_variable p.now.variable) (selectors_of p.now.selectors)) (held emitter.old)) }
 {
     selectors(emitter, line, p.selectors.as_slice())?;
@@ -75,7 +74,7 @@ pub fn alter<'p>(
 }
 
 /// A right side is put into a place.
-pub fn put<'p>(emitter: &mut Emitter<'p>, line: u32, p: &'p Place) -> Result<(), Memory>
+pub fn put<'p>(emitter: &mut Emitter<'p>, line: u32, p: &'p Place) -> Result<(), AllocError>
     ensures { OnOk result (held emitter.new ≡ after (code.put line (plain_variable p.now.variable) (selectors_of p.now.selectors)) (held emitter.old)) }
 {
     if p.selectors.is_empty() {
@@ -87,7 +86,7 @@ pub fn put<'p>(emitter: &mut Emitter<'p>, line: u32, p: &'p Place) -> Result<(),
 }
 
 /// A variable is read.
-fn read_one<'p>(emitter: &mut Emitter<'p>, line: u32, x: &'p Variable) -> Result<(), Memory>
+fn read_one<'p>(emitter: &mut Emitter<'p>, line: u32, x: &'p Variable) -> Result<(), AllocError>
     ensures { OnOk result (held emitter.new ≡ after (one line ReadOne ⨾ one line (StoreIn (plain_variable x.now))) (held emitter.old)) }
 {
     emitter.put(line, Instr::Read)?;
@@ -96,7 +95,11 @@ fn read_one<'p>(emitter: &mut Emitter<'p>, line: u32, x: &'p Variable) -> Result
 }
 
 /// Variables are read.
-pub fn read_all<'p>(emitter: &mut Emitter<'p>, line: u32, xs: &'p [Variable]) -> Result<(), Memory>
+pub fn read_all<'p>(
+    emitter: &mut Emitter<'p>,
+    line: u32,
+    xs: &'p [Variable],
+) -> Result<(), AllocError>
     ensures { OnOk result (held emitter.new ≡ after (code.read_all line (map plain_variable xs.now)) (held emitter.old)) }
 {
     for x in xs {

@@ -6,13 +6,13 @@ ghost use Rattle.setl_program.specs.code.Plain.{plain_variable, plain_slots, pla
 ghost use Rattle.setl_code.specs.Generated as code;
 ghost use Rattle.setl_gen_emitter.specs.Emitted.{held, after};
 
-use crate::Memory;
 use crate::exprs::{expr, exprs};
 use crate::places::{alter, put};
 use setl_code::{Alteration, Instr};
 use setl_gen_emitter::{Emitter, number, parts};
 use setl_operators_table::Operator;
 use setl_program::{Expr, Place, Taking, Variable};
+use std::alloc::AllocError;
 
 /// A value is put into a place.
 pub fn assign<'p>(
@@ -20,7 +20,7 @@ pub fn assign<'p>(
     line: u32,
     p: &'p Place,
     e: &'p Expr,
-) -> Result<(), Memory>
+) -> Result<(), AllocError>
     ensures { OnOk result (held emitter.new ≡ after (code.stmt 0 line (Assign (plain_place p.now) (plain_expr e.now))) (held emitter.old)) }
 {
     expr(emitter, line, e)?;
@@ -35,7 +35,7 @@ pub fn update<'p>(
     o: Operator,
     p: &'p Place,
     e: &'p Expr,
-) -> Result<(), Memory>
+) -> Result<(), AllocError>
     ensures { OnOk result (held emitter.new ≡ after (code.stmt 0 line (Update o (plain_place p.now) (plain_expr e.now))) (held emitter.old)) }
 {
     expr(emitter, line, e)?;
@@ -49,7 +49,7 @@ pub fn assign_parts<'p>(
     line: u32,
     xs: &'p [Option<Variable>],
     e: &'p Expr,
-) -> Result<(), Memory>
+) -> Result<(), AllocError>
     ensures { OnOk result (held emitter.new ≡ after (code.stmt 0 line (AssignParts (plain_slots xs.now) (plain_expr e.now))) (held emitter.old)) }
 {
     expr(emitter, line, e)?;
@@ -64,7 +64,7 @@ pub fn take_from<'p>(
     taking: Taking,
     x: &'p Variable,
     p: &'p Place,
-) -> Result<(), Memory>
+) -> Result<(), AllocError>
     ensures { OnOk result (held emitter.new ≡ after (code.stmt 0 line (TakeFrom taking (plain_variable x.now) (plain_place p.now))) (held emitter.old)) }
 {
     alter(emitter, line, Alteration::TakeOut(taking), p)?;
@@ -73,7 +73,7 @@ pub fn take_from<'p>(
 }
 
 /// A call whose result is dropped.
-pub fn perform<'p>(emitter: &mut Emitter<'p>, line: u32, e: &'p Expr) -> Result<(), Memory>
+pub fn perform<'p>(emitter: &mut Emitter<'p>, line: u32, e: &'p Expr) -> Result<(), AllocError>
     ensures { OnOk result (held emitter.new ≡ after (code.stmt 0 line (Perform (plain_expr e.now))) (held emitter.old)) }
 {
     expr(emitter, line, e)?;
@@ -82,7 +82,7 @@ pub fn perform<'p>(emitter: &mut Emitter<'p>, line: u32, e: &'p Expr) -> Result<
 }
 
 /// The end of a procedure with a result.
-pub fn give_back<'p>(emitter: &mut Emitter<'p>, line: u32, e: &'p Expr) -> Result<(), Memory>
+pub fn give_back<'p>(emitter: &mut Emitter<'p>, line: u32, e: &'p Expr) -> Result<(), AllocError>
     ensures { OnOk result (held emitter.new ≡ after (code.stmt 0 line (Return (plain_expr e.now))) (held emitter.old)) }
 {
     expr(emitter, line, e)?;
@@ -91,7 +91,7 @@ pub fn give_back<'p>(emitter: &mut Emitter<'p>, line: u32, e: &'p Expr) -> Resul
 }
 
 /// Values are printed.
-pub fn print<'p>(emitter: &mut Emitter<'p>, line: u32, es: &'p [Expr]) -> Result<(), Memory>
+pub fn print<'p>(emitter: &mut Emitter<'p>, line: u32, es: &'p [Expr]) -> Result<(), AllocError>
     ensures { OnOk result (held emitter.new ≡ after (code.stmt 0 line (Print (plain_exprs es.now))) (held emitter.old)) }
 {
     exprs(emitter, line, es)?;

@@ -8,7 +8,6 @@ ghost use Rattle.setl_code.specs.Generated as code;
 ghost use Rattle.setl_gen_emitter.specs.Emitted.{held, after};
 ghost use Rattle.setl_gen.specs.StmtKinds.{plain_kind, looped, IsGuarded, IsBranch, AreBranches};
 
-use crate::Memory;
 use crate::exprs::{expr, iterators, tested};
 use crate::places::read_all;
 use crate::steps::{assign, assign_parts, give_back, perform, print, take_from, update};
@@ -16,10 +15,11 @@ use setl_code::Instr;
 use setl_gen_emitter::{Emitter, Hole, number, quit};
 use setl_program::{Branch, Expr, Iterator, Stmt, StmtKind};
 use setl_tree::Items;
+use std::alloc::AllocError;
 
 /// Statements in their order, in a loop with so many iterators.
 #[cycle(stmt)]
-pub fn block<'p>(emitter: &mut Emitter<'p>, leaves: u32, ss: &'p [Stmt]) -> Result<(), Memory>
+pub fn block<'p>(emitter: &mut Emitter<'p>, leaves: u32, ss: &'p [Stmt]) -> Result<(), AllocError>
     ensures { OnOk result (held emitter.new ≡ after (code.block leaves (plain_block ss.now)) (held emitter.old)) }
 {
     for s in ss {
@@ -30,7 +30,7 @@ pub fn block<'p>(emitter: &mut Emitter<'p>, leaves: u32, ss: &'p [Stmt]) -> Resu
 
 /// A statement.
 #[cycle(stmt)]
-fn stmt<'p>(emitter: &mut Emitter<'p>, leaves: u32, s: &'p Stmt) -> Result<(), Memory>
+fn stmt<'p>(emitter: &mut Emitter<'p>, leaves: u32, s: &'p Stmt) -> Result<(), AllocError>
     ensures { OnOk result (held emitter.new ≡ after (code.stmt leaves (plain_stmt s.now).0 (plain_stmt s.now).1) (held emitter.old)) }
 {
     kind(emitter, leaves, s.line, &s.kind)
@@ -43,7 +43,7 @@ fn kind<'p>(
     leaves: u32,
     line: u32,
     k: &'p StmtKind,
-) -> Result<(), Memory>
+) -> Result<(), AllocError>
     ensures { OnOk result (held emitter.new ≡ after (code.stmt leaves line (plain_kind k.now)) (held emitter.old)) }
 {
     match k {
@@ -89,7 +89,7 @@ fn guard<'p>(
     b: &'p [Stmt],
     c: &'p Expr,
     overs: &mut Items<Hole>,
-) -> Result<(), Memory>
+) -> Result<(), AllocError>
     ensures { OnOk result (IsGuarded leaves line (plain_expr c.now) (plain_block b.now) (held emitter.old) overs.old (held emitter.new) overs.new) }
 {
     expr(emitter, line, c)?;
@@ -108,7 +108,7 @@ fn branch<'p>(
     leaves: u32,
     b: &'p Branch,
     overs: &mut Items<Hole>,
-) -> Result<(), Memory>
+) -> Result<(), AllocError>
     ensures { OnOk result (IsBranch leaves b.now (held emitter.old) overs.old (held emitter.new) overs.new) }
 {
     guard(
@@ -128,7 +128,7 @@ fn branches<'p>(
     leaves: u32,
     bs: &'p [Branch],
     overs: &mut Items<Hole>,
-) -> Result<(), Memory>
+) -> Result<(), AllocError>
     ensures { OnOk result (AreBranches leaves bs.now (held emitter.old) overs.old (held emitter.new) overs.new) }
 {
     for b in bs {
@@ -145,7 +145,7 @@ fn rounds<'p>(
     again: u32,
     leaves: u32,
     b: &'p [Stmt],
-) -> Result<(), Memory>
+) -> Result<(), AllocError>
     ensures { OnOk result (held emitter.new ≡ after (looped line again leaves (plain_block b.now)) (held emitter.old)) }
 {
     let around = emitter.go_on_at(again);
@@ -163,7 +163,7 @@ fn for_loop<'p>(
     b: &'p [Stmt],
     is: &'p [Iterator],
     t: &'p Option<Expr>,
-) -> Result<(), Memory>
+) -> Result<(), AllocError>
     ensures { OnOk result (held emitter.new ≡ after (code.stmt 0 line (For (plain_iterators is.now) (condition_of (option_map plain_expr t.now)) (plain_block b.now))) (held emitter.old)) }
 {
     let outer = emitter.enter();
@@ -184,7 +184,7 @@ fn condition<'p>(
     line: u32,
     t: &'p Option<Expr>,
     back: u32,
-) -> Result<(), Memory>
+) -> Result<(), AllocError>
     ensures { OnOk result (held emitter.new ≡ after (code.condition line (condition_of (option_map plain_expr t.now)) back) (held emitter.old)) }
 {
     match t {
@@ -200,7 +200,7 @@ fn while_loop<'p>(
     line: u32,
     b: &'p [Stmt],
     c: &'p Expr,
-) -> Result<(), Memory>
+) -> Result<(), AllocError>
     ensures { OnOk result (held emitter.new ≡ after (code.stmt 0 line (While (plain_expr c.now) (plain_block b.now))) (held emitter.old)) }
 {
     let outer = emitter.enter();

@@ -11,17 +11,17 @@ ghost use Rattle.setl_code.specs.Generated.{store_slots, set_by};
 ghost use Rattle.setl_gen_emitter.specs.Emitted.{held, after};
 ghost use Rattle.setl_gen_emitter.specs.ShortCode.{slot_code, clear_code, set_code};
 
-use crate::Memory;
 use crate::emitter::{Emitter, number};
 use setl_code::Instr;
 use setl_program::{Argument, Binding, Iterator, Variable};
+use std::alloc::AllocError;
 
 /// A store in a variable; `None` drops a value.
 fn store_one<'p>(
     emitter: &mut Emitter<'p>,
     line: u32,
     x: &'p Option<Variable>,
-) -> Result<(), Memory>
+) -> Result<(), AllocError>
     ensures { OnOk result (held emitter.new ≡ after (slot_code line (option_map plain_variable x.now)) (held emitter.old)) }
 {
     match x {
@@ -35,7 +35,7 @@ fn store_all<'p>(
     emitter: &mut Emitter<'p>,
     line: u32,
     xs: &'p [Option<Variable>],
-) -> Result<(), Memory>
+) -> Result<(), AllocError>
     ensures { OnOk result (held emitter.new ≡ after (store_slots line (plain_slots xs.now)) (held emitter.old)) }
 {
     for x in xs {
@@ -49,7 +49,7 @@ pub fn parts<'p>(
     emitter: &mut Emitter<'p>,
     line: u32,
     xs: &'p [Option<Variable>],
-) -> Result<(), Memory>
+) -> Result<(), AllocError>
     ensures { OnOk result (held emitter.new ≡ after (code.parts line (plain_slots xs.now)) (held emitter.old)) }
 {
     let count = number(xs.len())?;
@@ -59,7 +59,7 @@ pub fn parts<'p>(
 }
 
 /// The stores of a binding.
-pub fn bind<'p>(emitter: &mut Emitter<'p>, line: u32, b: &'p Binding) -> Result<(), Memory>
+pub fn bind<'p>(emitter: &mut Emitter<'p>, line: u32, b: &'p Binding) -> Result<(), AllocError>
     ensures { OnOk result (held emitter.new ≡ after (code.bind line (plain_binding b.now)) (held emitter.old)) }
 {
     match b {
@@ -78,7 +78,11 @@ pub fn bind<'p>(emitter: &mut Emitter<'p>, line: u32, b: &'p Binding) -> Result<
 
 /// The store behind a call in what an argument sets.
 #[tactic(auto, using(crate::specs::EmittedLaws::after_nothing))]
-fn store_argument<'p>(emitter: &mut Emitter<'p>, line: u32, x: &'p Argument) -> Result<(), Memory>
+fn store_argument<'p>(
+    emitter: &mut Emitter<'p>,
+    line: u32,
+    x: &'p Argument,
+) -> Result<(), AllocError>
     ensures { OnOk result (held emitter.new ≡ after (set_code line (plain_argument x.now no_argument)) (held emitter.old)) }
 {
     match x {
@@ -93,7 +97,7 @@ pub fn store_set<'p>(
     emitter: &mut Emitter<'p>,
     line: u32,
     all: &'p [Argument],
-) -> Result<(), Memory>
+) -> Result<(), AllocError>
     ensures { OnOk result (held emitter.new ≡ after (store_slots line (set_by (plain_arguments all.now))) (held emitter.old)) }
 {
     for k in 0..all.len() {
@@ -108,7 +112,7 @@ fn clear_one<'p>(
     emitter: &mut Emitter<'p>,
     line: u32,
     x: &'p Option<Variable>,
-) -> Result<(), Memory>
+) -> Result<(), AllocError>
     ensures { OnOk result (held emitter.new ≡ after (clear_code line (option_map plain_variable x.now)) (held emitter.old)) }
 {
     match x {
@@ -118,7 +122,11 @@ fn clear_one<'p>(
 }
 
 /// `om` in variables.
-fn clear<'p>(emitter: &mut Emitter<'p>, line: u32, xs: &'p [Option<Variable>]) -> Result<(), Memory>
+fn clear<'p>(
+    emitter: &mut Emitter<'p>,
+    line: u32,
+    xs: &'p [Option<Variable>],
+) -> Result<(), AllocError>
     ensures { OnOk result (held emitter.new ≡ after (code.clear line (variables_in (plain_slots xs.now))) (held emitter.old)) }
 {
     for x in xs {
@@ -128,7 +136,7 @@ fn clear<'p>(emitter: &mut Emitter<'p>, line: u32, xs: &'p [Option<Variable>]) -
 }
 
 /// `om` in the variables of a binding.
-fn clear_bound<'p>(emitter: &mut Emitter<'p>, line: u32, b: &'p Binding) -> Result<(), Memory>
+fn clear_bound<'p>(emitter: &mut Emitter<'p>, line: u32, b: &'p Binding) -> Result<(), AllocError>
     ensures { OnOk result (held emitter.new ≡ after (code.clear line (variables_in (bound_by (plain_binding b.now)))) (held emitter.old)) }
 {
     match b {
@@ -146,7 +154,11 @@ fn clear_bound<'p>(emitter: &mut Emitter<'p>, line: u32, b: &'p Binding) -> Resu
 }
 
 /// `om` in the variables of iterators.
-pub fn clear_all<'p>(emitter: &mut Emitter<'p>, line: u32, is: &'p [Iterator]) -> Result<(), Memory>
+pub fn clear_all<'p>(
+    emitter: &mut Emitter<'p>,
+    line: u32,
+    is: &'p [Iterator],
+) -> Result<(), AllocError>
     ensures { OnOk result (held emitter.new ≡ after (code.clear line (all_bound (plain_iterators is.now))) (held emitter.old)) }
 {
     for i in is {

@@ -9,7 +9,6 @@ ghost use Rattle.setl_code.specs.Plain.{plain_instr};
 ghost use Rattle.setl_gen_emitter.specs.Table.{variables};
 ghost use Rattle.setl_gen_emitter.specs.Emitted.{held, here, after, with_step, with_exits, with_again, all_filled, closed};
 
-use crate::Memory;
 use crate::hole::Hole;
 use crate::names::Names;
 use setl_code::{Instr, Step};
@@ -31,7 +30,7 @@ pub struct Emitter<'p> {
 /// A number as code has it. The error is that it is 2^32 or more, where no memory was refused: a limit of the code, which
 /// counts its steps, slots and bodies in 32 bits. A source has at most 2^24 bytes, so a program of one comes to it only
 /// where a body has 256 steps for each byte.
-pub fn number(n: usize) -> Result<u32, Memory>
+pub fn number(n: usize) -> Result<u32, AllocError>
     ensures { IfOk result (λ k. k ≡ n) }
 {
     match u32::try_from(n) {
@@ -42,14 +41,14 @@ pub fn number(n: usize) -> Result<u32, Memory>
 
 impl<'p> Emitter<'p> {
     /// The place of the next step. The error is that there are 2^32 steps (`number`).
-    pub fn here(&self) -> Result<u32, Memory>
+    pub fn here(&self) -> Result<u32, AllocError>
         ensures { IfOk result (λ at. at ≡ here (held self.now)) }
     {
         number(self.steps.len())
     }
 
     /// A step, with its place. The error is want of memory, or that there are 2^32 steps (`number`).
-    pub fn step(&mut self, line: u32, what: Instr) -> Result<u32, Memory>
+    pub fn step(&mut self, line: u32, what: Instr) -> Result<u32, AllocError>
         ensures place { IfOk result (λ at. at ≡ here (held self.old)) }
         ensures code { OnOk result (held self.new ≡ after (one line (plain_instr (variables self.old.names) what)) (held self.old)) }
     {
@@ -68,7 +67,7 @@ impl<'p> Emitter<'p> {
     }
 
     /// A jump out of the loop.
-    pub fn jump_out(&mut self, line: u32) -> Result<(), Memory>
+    pub fn jump_out(&mut self, line: u32) -> Result<(), AllocError>
         ensures { OnOk result (held self.new ≡ after (jumps_out line) (held self.old)) }
     {
         let place = self.step(line, Instr::Jump(0))?;
@@ -76,7 +75,7 @@ impl<'p> Emitter<'p> {
     }
 
     /// A jump to where the loop goes on.
-    pub fn jump_on(&mut self, line: u32) -> Result<(), Memory>
+    pub fn jump_on(&mut self, line: u32) -> Result<(), AllocError>
         ensures { OnOk result (held self.new ≡ after (jumps_on line) (held self.old)) }
     {
         let again = self.again;
@@ -119,7 +118,7 @@ impl<'p> Emitter<'p> {
     }
 
     /// Jumps lead to the next step.
-    pub fn close(&mut self, exits: Items<Hole>) -> Result<(), Memory>
+    pub fn close(&mut self, exits: Items<Hole>) -> Result<(), AllocError>
         ensures { OnOk result (held self.new ≡ closed exits (held self.old)) }
     {
         let end = self.here()?;
@@ -128,7 +127,7 @@ impl<'p> Emitter<'p> {
     }
 
     /// A test, at a place, goes on at the next step where it fails.
-    pub fn unless_here(&mut self, at: u32, line: u32) -> Result<(), Memory>
+    pub fn unless_here(&mut self, at: u32, line: u32) -> Result<(), AllocError>
         ensures { OnOk result (held self.new ≡ with_step at line (Unless (here (held self.old))) (held self.old)) }
     {
         let end = self.here()?;
@@ -137,7 +136,7 @@ impl<'p> Emitter<'p> {
     }
 
     /// A jump, at a place, leads to the next step.
-    pub fn jump_here(&mut self, at: u32, line: u32) -> Result<(), Memory>
+    pub fn jump_here(&mut self, at: u32, line: u32) -> Result<(), AllocError>
         ensures { OnOk result (held self.new ≡ with_step at line (Jump (here (held self.old))) (held self.old)) }
     {
         let end = self.here()?;
@@ -146,7 +145,12 @@ impl<'p> Emitter<'p> {
     }
 
     /// A decision, at a place, leads to the next step.
-    pub fn decide_here(&mut self, at: u32, line: u32, connective: Connective) -> Result<(), Memory>
+    pub fn decide_here(
+        &mut self,
+        at: u32,
+        line: u32,
+        connective: Connective,
+    ) -> Result<(), AllocError>
         ensures { OnOk result (held self.new ≡ with_step at line (Decides connective (here (held self.old))) (held self.old)) }
     {
         let end = self.here()?;
@@ -155,7 +159,7 @@ impl<'p> Emitter<'p> {
     }
 
     /// An iterator's next step, at a place, leads to the next step at its end.
-    pub fn next_here(&mut self, at: u32, line: u32) -> Result<(), Memory>
+    pub fn next_here(&mut self, at: u32, line: u32) -> Result<(), AllocError>
         ensures { OnOk result (held self.new ≡ with_step at line (NextOr (here (held self.old))) (held self.old)) }
     {
         let end = self.here()?;
@@ -164,7 +168,7 @@ impl<'p> Emitter<'p> {
     }
 
     /// A step.
-    pub fn put(&mut self, line: u32, what: Instr) -> Result<(), Memory>
+    pub fn put(&mut self, line: u32, what: Instr) -> Result<(), AllocError>
         ensures { OnOk result (held self.new ≡ after (one line (plain_instr (variables self.old.names) what)) (held self.old)) }
     {
         self.step(line, what)?;
@@ -172,7 +176,7 @@ impl<'p> Emitter<'p> {
     }
 
     /// A string.
-    pub fn text(&mut self, line: u32, t: &Text) -> Result<(), Memory>
+    pub fn text(&mut self, line: u32, t: &Text) -> Result<(), AllocError>
         ensures { OnOk result (held self.new ≡ after (one line (Push (Some (text t.now)))) (held self.old)) }
     {
         let copy = t.copy()?;
@@ -180,7 +184,7 @@ impl<'p> Emitter<'p> {
     }
 
     /// A read of a variable.
-    pub fn load(&mut self, line: u32, x: &'p Variable) -> Result<(), Memory>
+    pub fn load(&mut self, line: u32, x: &'p Variable) -> Result<(), AllocError>
         ensures { OnOk result (held self.new ≡ after (one line (Load (plain_variable x.now))) (held self.old)) }
     {
         let slot = self.names.slot(x)?;
@@ -188,7 +192,7 @@ impl<'p> Emitter<'p> {
     }
 
     /// A store in a variable.
-    pub fn store(&mut self, line: u32, x: &'p Variable) -> Result<(), Memory>
+    pub fn store(&mut self, line: u32, x: &'p Variable) -> Result<(), AllocError>
         ensures { OnOk result (held self.new ≡ after (one line (StoreIn (plain_variable x.now))) (held self.old)) }
     {
         let slot = self.names.slot(x)?;
@@ -196,7 +200,7 @@ impl<'p> Emitter<'p> {
     }
 
     /// `om` in a variable.
-    pub fn clear(&mut self, line: u32, x: &'p Variable) -> Result<(), Memory>
+    pub fn clear(&mut self, line: u32, x: &'p Variable) -> Result<(), AllocError>
         ensures { OnOk result (held self.new ≡ after (one line (Push None) ⨾ one line (StoreIn (plain_variable x.now))) (held self.old)) }
     {
         self.put(line, Instr::Undefined)?;

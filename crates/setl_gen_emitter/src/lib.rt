@@ -18,4 +18,3 @@ pub use names::Names;
 pub use simple::{
     add_and_go_on, begin, begin_selection, end_undecided, keep_or_drop, leave_decided, quit,
 };
-pub use std::alloc::AllocError as Memory;

@@ -7,7 +7,6 @@ ghost use Rattle.setl_code.specs.Plain.{plain_slot, plain_name};
 ghost use Rattle.setl_gen_emitter.specs.Table.{variables, with_own, noted, all_noted};
 ghost use Rattle.setl_gen_emitter.specs.Slots.{global_key, own_key, own_variable, is_key, AreSlots, IsSlot, IsAdded, AreOwn};
 
-use crate::Memory;
 use crate::emitter::number;
 use indexmap::IndexMap;
 use setl_code::{OwnName, Slot};
@@ -62,7 +61,7 @@ fn own_slot(slots: &IndexMap<(u64, &[u8]), u32>, former: u64, name: &[u8]) -> Op
 }
 
 /// The slots of the names in `var`.
-fn global_slots<'p>(alloc: Global, vars: &'p [Text]) -> Result<IndexMap<&'p [u8], u32>, Memory>
+fn global_slots<'p>(alloc: Global, vars: &'p [Text]) -> Result<IndexMap<&'p [u8], u32>, AllocError>
     ensures { IfOk result (λ m. AreSlots global_key (map run.Global vars.now) m.entries) }
 {
     let mut slots = IndexMap::new(alloc);
@@ -77,7 +76,7 @@ fn global_slots<'p>(alloc: Global, vars: &'p [Text]) -> Result<IndexMap<&'p [u8]
 fn parameter_slots<'p>(
     alloc: Global,
     parameters: &'p [Param],
-) -> Result<IndexMap<(u64, &'p [u8]), u32>, Memory>
+) -> Result<IndexMap<(u64, &'p [u8]), u32>, AllocError>
     ensures { IfOk result (λ m. (body : ℕ) → AreOwn body (map (λ p. run.Own body p.name) parameters.now) m.entries) }
 {
     let mut slots = IndexMap::new(alloc);
@@ -96,7 +95,7 @@ fn add<'p>(
     text: &'p [u8],
     name: OwnName,
     slot: u32,
-) -> Result<(), Memory>
+) -> Result<(), AllocError>
     ensures names { OnOk result (names.new ≡ names.old ++ name ∷ []) }
     ensures slots { OnOk result ((body : ℕ) → IsAdded (own_key body) slots.old.entries (own_variable body former text.now) slot slots.new.entries) }
     ensures names_stay { OnErr result (names.new ≡ names.old) }
@@ -109,7 +108,7 @@ fn add<'p>(
 }
 
 /// A name as code has it. The error is want of memory, or that `former` is above 2^32, which the caller's is not.
-fn own_name(former: u64, text: &Text) -> Result<OwnName, Memory>
+fn own_name(former: u64, text: &Text) -> Result<OwnName, AllocError>
     ensures { IfOk result (λ name. (body : ℕ) → plain_name body name ≡ own_variable body former text.now) }
 {
     let name = text.copy()?;
@@ -124,7 +123,7 @@ fn own_name(former: u64, text: &Text) -> Result<OwnName, Memory>
 }
 
 /// The same names again. An error is want of memory.
-fn copied_names(alloc: Global, names: &[OwnName]) -> Result<Items<OwnName>, Memory>
+fn copied_names(alloc: Global, names: &[OwnName]) -> Result<Items<OwnName>, AllocError>
     ensures { IfOk result (λ all. all ≡ names.now) }
 {
     let mut all = Items::new(alloc);
@@ -136,7 +135,7 @@ fn copied_names(alloc: Global, names: &[OwnName]) -> Result<Items<OwnName>, Memo
 }
 
 /// The same name again. An error is want of memory.
-fn copied_name(name: &OwnName) -> Result<OwnName, Memory>
+fn copied_name(name: &OwnName) -> Result<OwnName, AllocError>
     ensures { IfOk result (λ copy. copy ≡ name.now) }
 {
     match name {
@@ -147,7 +146,7 @@ fn copied_name(name: &OwnName) -> Result<OwnName, Memory>
 
 impl<'p> Names<'p> {
     /// No body's names; these stand in `var`.
-    pub fn new(alloc: Global, vars: &'p [Text]) -> Result<Names<'p>, Memory>
+    pub fn new(alloc: Global, vars: &'p [Text]) -> Result<Names<'p>, AllocError>
         ensures { IfOk result (λ n. n.vars ≡ vars.now) }
     {
         let global_slots = global_slots(alloc, vars)?;
@@ -163,7 +162,7 @@ impl<'p> Names<'p> {
     }
 
     /// Begins the body of a number, with its parameters.
-    pub fn begin(&mut self, body: u32, parameters: &'p [Param]) -> Result<(), Memory>
+    pub fn begin(&mut self, body: u32, parameters: &'p [Param]) -> Result<(), AllocError>
         ensures { OnOk result (self.new ≡ record self.old { body = body; parameters = parameters.now; names = [] }) }
     {
         let own_slots = parameter_slots(self.alloc, parameters)?;
@@ -182,7 +181,7 @@ impl<'p> Names<'p> {
     }
 
     /// The own names. An error is want of memory.
-    pub fn names(&self) -> Result<Items<OwnName>, Memory>
+    pub fn names(&self) -> Result<Items<OwnName>, AllocError>
         ensures { IfOk result (λ names. map (plain_name self.now.body) names ≡ self.now.names) }
     {
         copied_names(self.alloc, self.names.as_slice())
@@ -190,7 +189,7 @@ impl<'p> Names<'p> {
 
     /// A variable of the body's own, unless it has a slot. The error is want of memory, or that the body has 2^32 variables
     /// (`number`).
-    fn note_own(&mut self, former: u64, name: &'p Text) -> Result<(), Memory>
+    fn note_own(&mut self, former: u64, name: &'p Text) -> Result<(), AllocError>
         requires { former < 2 ^ 32 + 1 }
         ensures { OnOk result (self.new ≡ record self.old { names = with_own self.old.parameters self.old.names (own_variable self.old.body former name.now) }) }
     {
@@ -214,7 +213,7 @@ impl<'p> Names<'p> {
 
     /// A variable that stands in the body. The error is want of memory, that the body has 2^32 variables, or that it is an
     /// own variable of another body, which no formed program has there (`FormedVariable`).
-    fn note(&mut self, x: &'p Variable) -> Result<(), Memory>
+    fn note(&mut self, x: &'p Variable) -> Result<(), AllocError>
         ensures { OnOk result (self.new ≡ noted (plain_variable x.now) self.old) }
     {
         match x {
@@ -231,7 +230,7 @@ impl<'p> Names<'p> {
     }
 
     /// The variables that stand in the body, in their order.
-    pub fn note_all(&mut self, all: &[&'p Variable]) -> Result<(), Memory>
+    pub fn note_all(&mut self, all: &[&'p Variable]) -> Result<(), AllocError>
         ensures { OnOk result (self.new ≡ all_noted (map (λ x. plain_variable x.now) all.now) self.old) }
     {
         for x in all {
@@ -242,7 +241,7 @@ impl<'p> Names<'p> {
 
     /// The slot of a variable. The error is that it has none, where no memory was refused. In a formed and placed program
     /// each variable has one, since its body's were noted before.
-    pub fn slot(&self, x: &'p Variable) -> Result<Slot, Memory>
+    pub fn slot(&self, x: &'p Variable) -> Result<Slot, AllocError>
         ensures { IfOk result (λ slot. plain_slot (variables self.now) slot ≡ plain_variable x.now) }
     {
         match x {
@@ -259,7 +258,7 @@ impl<'p> Names<'p> {
     }
 
     /// The slot of a name in `var`. The error is that it has none.
-    fn slot_of_global(&self, name: &Text) -> Result<Slot, Memory>
+    fn slot_of_global(&self, name: &Text) -> Result<Slot, AllocError>
         ensures { IfOk result (λ slot. plain_slot (variables self.now) slot ≡ run.Global name.now) }
     {
         match global_slot(&self.global_slots, name.bytes()) {
@@ -269,7 +268,7 @@ impl<'p> Names<'p> {
     }
 
     /// The slot of a variable of the body's own. The error is that it has none.
-    fn slot_of_own(&self, former: u64, name: &Text) -> Result<Slot, Memory>
+    fn slot_of_own(&self, former: u64, name: &Text) -> Result<Slot, AllocError>
         ensures { IfOk result (λ slot. plain_slot (variables self.now) slot ≡ own_variable self.now.body former name.now) }
     {
         match own_slot(&self.own_slots, former, name.bytes()) {

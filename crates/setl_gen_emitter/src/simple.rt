@@ -11,7 +11,6 @@ ghost use Rattle.setl_code.specs.Generated as code;
 ghost use Rattle.setl_gen_emitter.specs.Emitted.{held, here, after};
 ghost use Rattle.setl_gen_emitter.specs.ShortCode.{with_end_undecided};
 
-use crate::Memory;
 use crate::binds::{bind, clear_all};
 use crate::emitter::{Emitter, number};
 use crate::hole::Hole;
@@ -19,6 +18,7 @@ use setl_code::{Begin, Instr};
 use setl_operators_table::Operator;
 use setl_program::{Binding, Iterator, Quantifier};
 use setl_tree::Items;
+use std::alloc::AllocError;
 
 /// What a quantifier is once a member decides it.
 fn decided(quantifier: Quantifier) -> bool
@@ -43,7 +43,12 @@ fn undecided(quantifier: Quantifier) -> bool
 }
 
 /// A new iterator over the parts of a source, so many.
-pub fn begin(emitter: &mut Emitter<'_>, line: u32, b: &Binding, parts: u32) -> Result<(), Memory>
+pub fn begin(
+    emitter: &mut Emitter<'_>,
+    line: u32,
+    b: &Binding,
+    parts: u32,
+) -> Result<(), AllocError>
     ensures { OnOk result (held emitter.new ≡ after (one line (BeginOver (begin_of (plain_binding b.now)) parts)) (held emitter.old)) }
 {
     match b {
@@ -55,7 +60,7 @@ pub fn begin(emitter: &mut Emitter<'_>, line: u32, b: &Binding, parts: u32) -> R
 
 /// `not`, where a member that a condition doesn't hold for decides a quantifier.
 #[tactic(auto, using(crate::specs::EmittedLaws::after_nothing))]
-fn negated(emitter: &mut Emitter<'_>, line: u32, quantifier: Quantifier) -> Result<(), Memory>
+fn negated(emitter: &mut Emitter<'_>, line: u32, quantifier: Quantifier) -> Result<(), AllocError>
     ensures { OnOk result (held emitter.new ≡ after (code.negated line quantifier) (held emitter.old)) }
 {
     match quantifier {
@@ -66,7 +71,7 @@ fn negated(emitter: &mut Emitter<'_>, line: u32, quantifier: Quantifier) -> Resu
 }
 
 /// A member below a condition is kept or dropped, and the next one follows.
-pub fn keep_or_drop(emitter: &mut Emitter<'_>, line: u32, next: u32) -> Result<(), Memory>
+pub fn keep_or_drop(emitter: &mut Emitter<'_>, line: u32, next: u32) -> Result<(), AllocError>
     ensures { OnOk result (held emitter.new ≡ after (code.keep_or_drop line next) (held emitter.old)) }
 {
     let test = emitter.step(line, Instr::Unless(0))?;
@@ -84,7 +89,7 @@ pub fn add_and_go_on(
     line: u32,
     levels: usize,
     next: u32,
-) -> Result<(), Memory>
+) -> Result<(), AllocError>
     ensures { OnOk result (held emitter.new ≡ after (one line (AddBelow levels) ⨾ one line (Jump next)) (held emitter.old)) }
 {
     let levels = number(levels)?;
@@ -100,7 +105,7 @@ pub fn begin_selection<'p>(
     line: u32,
     b: &'p Binding,
     parts: usize,
-) -> Result<u32, Memory>
+) -> Result<u32, AllocError>
     ensures place { IfOk result (λ at. at ≡ here (after (one line (BeginOver (begin_of (plain_binding b.now)) parts)) (held emitter.old))) }
     ensures code { OnOk result (held emitter.new ≡ after (one line (NextOr 0) ⨾ one line DupTop ⨾ code.bind line (plain_binding b.now)) (after (one line (BeginOver (begin_of (plain_binding b.now)) parts)) (held emitter.old))) }
 {
@@ -119,7 +124,7 @@ pub fn leave_decided(
     quantifier: Quantifier,
     levels: usize,
     next: u32,
-) -> Result<(), Memory>
+) -> Result<(), AllocError>
     ensures { OnOk result (held emitter.new ≡ after (code.negated line quantifier ⨾ one line (Unless next) ⨾ one line (LeaveAll levels) ⨾ one line (Push (Some (bool (model.decided quantifier)))) ⨾ jumps_out line) (held emitter.old)) }
 {
     negated(emitter, line, quantifier)?;
@@ -134,7 +139,7 @@ fn leave_with(
     line: u32,
     levels: usize,
     truth: bool,
-) -> Result<(), Memory>
+) -> Result<(), AllocError>
     ensures { OnOk result (held emitter.new ≡ after (one line (LeaveAll levels) ⨾ one line (Push (Some (bool truth))) ⨾ jumps_out line) (held emitter.old)) }
 {
     let levels = number(levels)?;
@@ -151,7 +156,7 @@ pub fn end_undecided<'p>(
     quantifier: Quantifier,
     is: &'p [Iterator],
     exits: Items<Hole>,
-) -> Result<(), Memory>
+) -> Result<(), AllocError>
     ensures { OnOk result (held emitter.new ≡ with_end_undecided line quantifier (plain_iterators is.now) exits (held emitter.old)) }
 {
     clear_all(emitter, line, is)?;
@@ -162,7 +167,7 @@ pub fn end_undecided<'p>(
 }
 
 /// The innermost loop, of so many iterators, is left.
-pub fn quit(emitter: &mut Emitter<'_>, leaves: u32, line: u32) -> Result<(), Memory>
+pub fn quit(emitter: &mut Emitter<'_>, leaves: u32, line: u32) -> Result<(), AllocError>
     ensures { OnOk result (held emitter.new ≡ after (code.quit line leaves) (held emitter.old)) }
 {
     if leaves == 0 {

@@ -17,8 +17,7 @@ use setl_image_codec::{
 };
 use setl_image_steps::StepCoder;
 use setl_tree::{Items, Param, Text};
-use setl_value::Memory;
-use std::alloc::Global;
+use std::alloc::{AllocError, Global};
 
 /// Bodies of code with so many variables that all bodies see.
 #[derive(Drop)]
@@ -57,7 +56,7 @@ impl Coder for BodyCoder {
     }
 
     #[tactic(auto, using(crate::proofs::Decoding::same_items))]
-    fn push(&self, into: &mut Vec<u8>, x: &Body) -> Result<(), Memory> {
+    fn push(&self, into: &mut Vec<u8>, x: &Body) -> Result<(), AllocError> {
         push_text(into, &x.name)?;
         push_list(&ParamCoder {}, into, x.parameters.as_slice())?;
         into.push(0)?;
@@ -103,7 +102,7 @@ fn push_steps(
     parameters: &Items<Param>,
     names: &Items<OwnName>,
     steps: &Items<Step>,
-) -> Result<(), Memory>
+) -> Result<(), AllocError>
     requires { (listed (step globals (length parameters.now + length names.now))).Fits steps.now }
     ensures { OnOk result (into.new.items ≡ into.old.items ++ (listed (step globals (length parameters.now + length names.now))).write steps.now) }
 {
@@ -133,7 +132,7 @@ pub(crate) fn push_bodies(
     into: &mut Vec<u8>,
     vars: &Items<Text>,
     bodies: &Items<Body>,
-) -> Result<(), Memory>
+) -> Result<(), AllocError>
     requires { (listed (body (length vars.now))).Fits bodies.now }
     ensures { OnOk result (into.new.items ≡ into.old.items ++ (listed (body (length vars.now))).write bodies.now) }
 {

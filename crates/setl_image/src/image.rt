@@ -17,8 +17,7 @@ use setl_code::{Body, Code};
 use setl_image_codec::{ImageFault, push_list};
 use setl_modes::ModeTable;
 use setl_tree::{Items, Text};
-use setl_value::Memory;
-use std::alloc::Global;
+use std::alloc::{AllocError, Global};
 
 /// What a code file holds: code, and the bases and declared variables of its program.
 #[derive(Drop)]
@@ -38,7 +37,7 @@ fn mark() -> &'static [u8]
 
 /// The bytes that spell an image. The error is want of memory.
 #[tactic(auto, using(crate::proofs::Decoding::image_writes, crate::proofs::Decoding::same_items))]
-pub fn encode(alloc: Global, image: &Image) -> Result<Vec<u8>, Memory>
+pub fn encode(alloc: Global, image: &Image) -> Result<Vec<u8>, AllocError>
     requires { spec.image.Fits (image_of image.now) }
     ensures { IfOk result (λ bytes. Spells spec.image (image_of image.now) bytes.items) }
 {

@@ -16,4 +16,3 @@ pub use image::{Image, decode, encode};
 pub use setl_image_codec::ImageFault;
 
 /// Want of memory.
-pub use setl_value::Memory;

@@ -15,8 +15,7 @@ use setl_image_format::Kind;
 use setl_image_steps::at;
 use setl_modes::{Form, Mode, NamedMode};
 use setl_tree::Boxed;
-use setl_value::Memory;
-use std::alloc::Global;
+use std::alloc::{AllocError, Global};
 
 // The kinds by their bytes, from 0 on.
 const KINDS: &[Kind] = &[
@@ -174,7 +173,7 @@ fn read_mmap<'a>(
 
 // The same mode again.
 #[cycle(copies)]
-fn copied(alloc: Global, m: &Mode) -> Result<Mode, Memory>
+fn copied(alloc: Global, m: &Mode) -> Result<Mode, AllocError>
     ensures { IfOk result (λ again. mode_of again ≡ mode_of m.now) }
 {
     match m {
@@ -199,7 +198,7 @@ fn copied(alloc: Global, m: &Mode) -> Result<Mode, Memory>
 
 // The same mode again in a box.
 #[cycle(copies)]
-fn copied_box(alloc: Global, m: &Mode) -> Result<Boxed<Mode>, Memory>
+fn copied_box(alloc: Global, m: &Mode) -> Result<Boxed<Mode>, AllocError>
     ensures { IfOk result (λ again. mode_of again ≡ mode_of m.now) }
 {
     let again = copied(alloc, m)?;
@@ -207,7 +206,7 @@ fn copied_box(alloc: Global, m: &Mode) -> Result<Boxed<Mode>, Memory>
 }
 
 /// Adds a mode.
-pub(crate) fn push_mode(into: &mut Vec<u8>, m: &Mode) -> Result<(), Memory>
+pub(crate) fn push_mode(into: &mut Vec<u8>, m: &Mode) -> Result<(), AllocError>
     ensures { OnOk result (into.new.items ≡ into.old.items ++ mode_text (mode_of m.now)) }
 {
     match m {
@@ -242,7 +241,7 @@ pub(crate) fn push_mode(into: &mut Vec<u8>, m: &Mode) -> Result<(), Memory>
 }
 
 // Adds a byte and a form.
-fn push_head(into: &mut Vec<u8>, b: u8, form: Form) -> Result<(), Memory>
+fn push_head(into: &mut Vec<u8>, b: u8, form: Form) -> Result<(), AllocError>
     ensures { OnOk result (into.new.items ≡ into.old.items ++ b ∷ spec.form_place form ∷ []) }
 {
     push_byte(into, b)?;
@@ -257,7 +256,7 @@ fn push_head(into: &mut Vec<u8>, b: u8, form: Form) -> Result<(), Memory>
     )
 }
 
-fn push_byte(into: &mut Vec<u8>, b: u8) -> Result<(), Memory>
+fn push_byte(into: &mut Vec<u8>, b: u8) -> Result<(), AllocError>
     ensures { OnOk result (into.new.items ≡ into.old.items ++ b ∷ []) }
 {
     into.push(b)?;

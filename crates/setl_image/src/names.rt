@@ -12,8 +12,7 @@ use setl_image_codec::{
     Coder, ImageFault, push_number, push_text, read_list, read_name, read_number,
 };
 use setl_tree::{Items, Param, Passing, Text};
-use setl_value::Memory;
-use std::alloc::Global;
+use std::alloc::{AllocError, Global};
 
 /// Names.
 #[derive(Drop)]
@@ -35,7 +34,7 @@ impl Coder for NameCoder {
         read_name(alloc, bytes)
     }
 
-    fn push(&self, into: &mut Vec<u8>, x: &Text) -> Result<(), Memory> {
+    fn push(&self, into: &mut Vec<u8>, x: &Text) -> Result<(), AllocError> {
         push_text(into, x)
     }
 }
@@ -70,7 +69,7 @@ impl Coder for ParamCoder {
         ))
     }
 
-    fn push(&self, into: &mut Vec<u8>, x: &Param) -> Result<(), Memory> {
+    fn push(&self, into: &mut Vec<u8>, x: &Param) -> Result<(), AllocError> {
         into.push(match x.passing {
             Passing::Rd => 0,
             Passing::Wr => 1,

@@ -13,8 +13,7 @@ use setl_image_codec::{
     Coder, ImageFault, is_name, name_of, push_number, push_text, read_counted, read_list,
 };
 use setl_tree::{Items, Text};
-use setl_value::Memory;
-use std::alloc::Global;
+use std::alloc::{AllocError, Global};
 
 /// Own names.
 #[derive(Drop)]
@@ -37,7 +36,7 @@ impl Coder for OwnNameCoder {
         Ok((own_of(alloc, found)?, rest))
     }
 
-    fn push(&self, into: &mut Vec<u8>, x: &OwnName) -> Result<(), Memory> {
+    fn push(&self, into: &mut Vec<u8>, x: &OwnName) -> Result<(), AllocError> {
         match x {
             OwnName::Body(name) => push_text(into, name),
             OwnName::Former(k, name) => push_former(into, *k, name),
@@ -113,7 +112,7 @@ fn with_digit(n: u32, b: u8) -> Option<u32>
 }
 
 // Adds a name of a former.
-fn push_former(into: &mut Vec<u8>, k: u32, name: &Text) -> Result<(), Memory>
+fn push_former(into: &mut Vec<u8>, k: u32, name: &Text) -> Result<(), AllocError>
     requires { length (spec.own_text (Former k name.now)) < 2 ^ 32 }
     ensures { OnOk result (into.new.items ≡ into.old.items ++ spec.own_name.write (Former k name.now)) }
 {

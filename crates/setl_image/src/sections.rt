@@ -13,8 +13,7 @@ use crate::modes::{push_mode, read_mode};
 use setl_image_codec::{Coder, ImageFault, push_list, push_text, read_list, read_name};
 use setl_modes::{ModeTable, NamedMode};
 use setl_tree::Items;
-use setl_value::Memory;
-use std::alloc::Global;
+use std::alloc::{AllocError, Global};
 
 // How many of the modes `set`, `tuple`, `smap` and `mmap` may stand inside each other.
 const DEEPEST: u32 = 200;
@@ -50,7 +49,7 @@ impl<'b> Coder for NamedCoder<'b> {
         Ok((NamedMode { name, mode }, rest))
     }
 
-    fn push(&self, into: &mut Vec<u8>, x: &NamedMode) -> Result<(), Memory> {
+    fn push(&self, into: &mut Vec<u8>, x: &NamedMode) -> Result<(), AllocError> {
         push_text(into, &x.name)?;
         push_mode(into, &x.mode)
     }
@@ -81,7 +80,7 @@ fn read_vars<'a>(
 }
 
 /// Adds the section.
-pub(crate) fn push_section(into: &mut Vec<u8>, table: &ModeTable) -> Result<(), Memory>
+pub(crate) fn push_section(into: &mut Vec<u8>, table: &ModeTable) -> Result<(), AllocError>
     requires { section.Fits (table_of table.now) }
     ensures { OnOk result (into.new.items ≡ into.old.items ++ section.write (table_of table.now)) }
 {
@@ -94,7 +93,7 @@ fn push_vars(
     into: &mut Vec<u8>,
     bases: &Items<NamedMode>,
     vars: &Items<NamedMode>,
-) -> Result<(), Memory>
+) -> Result<(), AllocError>
     requires { (listed (pair name (mode (modes_of bases.now)))).Fits (map named_of vars.now) }
     ensures { OnOk result (into.new.items ≡ into.old.items ++ (listed (pair name (mode (modes_of bases.now)))).write (map named_of vars.now)) }
 {

@@ -9,8 +9,7 @@ ghost use Rattle.setl_image_codec.specs.Numbers.{listed};
 use crate::fault::ImageFault;
 use crate::numbers::{push_number, read_number};
 use setl_tree::Items;
-use setl_value::Memory;
-use std::alloc::Global;
+use std::alloc::{AllocError, Global};
 
 /// How values are written and read.
 pub trait Coder {
@@ -33,7 +32,7 @@ pub trait Coder {
         ensures { Gives (λ x. (view x.0, x.1.now)) result ((codec self.now).read bytes.now) };
 
     /// Adds the value.
-    fn push(&self, into: &mut Vec<u8>, x: &Self::Out) -> Result<(), Memory>
+    fn push(&self, into: &mut Vec<u8>, x: &Self::Out) -> Result<(), AllocError>
         requires { (codec self.now).Fits (view x.now) }
         ensures { OnOk result (into.new.items ≡ into.old.items ++ (codec self.now).write (view x.now)) };
 }
@@ -71,7 +70,11 @@ fn read_items<'a, C: Coder>(
 }
 
 /// Adds the list.
-pub fn push_list<C: Coder>(coder: &C, into: &mut Vec<u8>, items: &[C::Out]) -> Result<(), Memory>
+pub fn push_list<C: Coder>(
+    coder: &C,
+    into: &mut Vec<u8>,
+    items: &[C::Out],
+) -> Result<(), AllocError>
     requires { (listed (C.codec coder.now)).Fits (map C.view items.now) }
     ensures { OnOk result (into.new.items ≡ into.old.items ++ (listed (C.codec coder.now)).write (map C.view items.now)) }
 {
@@ -80,7 +83,7 @@ pub fn push_list<C: Coder>(coder: &C, into: &mut Vec<u8>, items: &[C::Out]) -> R
 }
 
 // Adds the values.
-fn push_items<C: Coder>(coder: &C, into: &mut Vec<u8>, items: &[C::Out]) -> Result<(), Memory>
+fn push_items<C: Coder>(coder: &C, into: &mut Vec<u8>, items: &[C::Out]) -> Result<(), AllocError>
     requires { AllByRecursion (C.codec coder.now).Fits (map C.view items.now) }
     ensures { OnOk result (into.new.items ≡ into.old.items ++ write_all (C.codec coder.now) (map C.view items.now)) }
 {

@@ -5,7 +5,7 @@ ghost use Rattle.setl_image_codec.specs.Given.{Gives};
 ghost use Rattle.setl_image_codec.specs.Numbers.{groups, integer, number, read_groups};
 
 use crate::fault::ImageFault;
-use setl_value::Memory;
+use std::alloc::AllocError;
 
 /// The number below 2^32 at the front, and what stands behind it.
 pub fn read_number(bytes: &[u8]) -> Result<(u32, &[u8]), ImageFault>
@@ -47,14 +47,14 @@ fn read_groups(top: u128, most: u32, bytes: &[u8]) -> Result<(u128, &[u8]), Imag
 }
 
 /// Adds the number.
-pub fn push_number(into: &mut Vec<u8>, n: u32) -> Result<(), Memory>
+pub fn push_number(into: &mut Vec<u8>, n: u32) -> Result<(), AllocError>
     ensures { OnOk result (into.new.items ≡ into.old.items ++ number.write n) }
 {
     push_groups(into, 5, u128::from(n))
 }
 
 /// Adds the number.
-pub fn push_integer(into: &mut Vec<u8>, n: u128) -> Result<(), Memory>
+pub fn push_integer(into: &mut Vec<u8>, n: u128) -> Result<(), AllocError>
     ensures { OnOk result (into.new.items ≡ into.old.items ++ integer.write n) }
 {
     push_groups(into, 19, n)
@@ -62,7 +62,7 @@ pub fn push_integer(into: &mut Vec<u8>, n: u128) -> Result<(), Memory>
 
 // Adds the number in at most so many groups.
 #[tactic(auto, using(crate::proofs::Steps::groups_more))]
-fn push_groups(into: &mut Vec<u8>, most: u32, n: u128) -> Result<(), Memory>
+fn push_groups(into: &mut Vec<u8>, most: u32, n: u128) -> Result<(), AllocError>
     ensures { OnOk result (into.new.items ≡ into.old.items ++ groups most n) }
 {
     if most == 0 {

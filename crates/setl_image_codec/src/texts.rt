@@ -8,8 +8,7 @@ ghost use Rattle.setl_image_codec.specs.Texts.{all_are, counted, is_name, is_nam
 use crate::fault::ImageFault;
 use crate::numbers::{push_number, read_number};
 use setl_tree::Text;
-use setl_value::Memory;
-use std::alloc::Global;
+use std::alloc::{AllocError, Global};
 
 /// The text at the front, and what stands behind it.
 #[tactic(auto, using(crate::proofs::Steps::text_bytes))]
@@ -86,7 +85,7 @@ fn are_name_bytes(bytes: &[u8]) -> bool
 }
 
 /// Adds the text.
-pub fn push_text(into: &mut Vec<u8>, t: &Text) -> Result<(), Memory>
+pub fn push_text(into: &mut Vec<u8>, t: &Text) -> Result<(), AllocError>
     requires { length t.now < 2 ^ 32 }
     ensures { OnOk result (into.new.items ≡ into.old.items ++ text.write t.now) }
 {

@@ -5,11 +5,10 @@ ghost use Rattle.std.specs.List.{AllByRecursion};
 ghost use Rattle.setl_names.specs.Names.{in_order, with_names};
 ghost use Rattle.setl_image_names.specs.Once.{StandsOnce, all_once, declared_names, is_once, names_in, own_after};
 
-use crate::Memory;
 use setl_code::OwnName;
 use setl_modes::NamedMode;
 use setl_names::Names;
-use std::alloc::Global;
+use std::alloc::{AllocError, Global};
 
 /// Whether each declared name stands among the names in `var` or among the own names of the main body, and not among both.
 /// The error is want of memory.
@@ -18,7 +17,7 @@ pub fn stand_once(
     vars: &Names,
     main: &[OwnName],
     declared: &[NamedMode],
-) -> Result<bool, Memory>
+) -> Result<bool, AllocError>
     ensures { IfOk result (λ so. IsTrue so ↔ AllByRecursion (StandsOnce vars.now main.now) (declared_names declared.now)) }
 {
     let mine = own_names(alloc, main)?;
@@ -26,7 +25,7 @@ pub fn stand_once(
 }
 
 // The own names of a body that aren't those of formers.
-fn own_names(alloc: Global, main: &[OwnName]) -> Result<Names, Memory>
+fn own_names(alloc: Global, main: &[OwnName]) -> Result<Names, AllocError>
     ensures { IfOk result (λ names. names ≡ in_order (names_in main.now)) }
 {
     let mut names = Names::new(alloc);
@@ -37,7 +36,7 @@ fn own_names(alloc: Global, main: &[OwnName]) -> Result<Names, Memory>
 }
 
 // Puts an own name to some names, unless it is that of a former.
-fn put_body(names: &mut Names, name: &OwnName) -> Result<(), Memory>
+fn put_body(names: &mut Names, name: &OwnName) -> Result<(), AllocError>
     ensures { OnOk result (names.new ≡ with_names names.old (names_in (name.now ∷ []))) }
 {
     if let OwnName::Body(text) = name {
@@ -66,7 +65,11 @@ fn is_once(in_vars: bool, in_mine: bool) -> bool
 }
 
 /// The declared names that aren't in `var`, so that they are the main program's own. The error is want of memory.
-pub fn own_declared(alloc: Global, vars: &Names, declared: &[NamedMode]) -> Result<Names, Memory>
+pub fn own_declared(
+    alloc: Global,
+    vars: &Names,
+    declared: &[NamedMode],
+) -> Result<Names, AllocError>
     ensures { IfOk result (λ names. names ≡ own_after vars.now [] (declared_names declared.now)) }
 {
     let mut names = Names::new(alloc);

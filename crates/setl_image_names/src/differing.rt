@@ -8,16 +8,15 @@ ghost use Rattle.setl_code.specs.Names.{is_among};
 ghost use Rattle.setl_code.specs.Plain.{own_variables, plain_name};
 ghost use Rattle.setl_image_names.specs.Once.{declared_names, own_variable, variables_seen, are_new};
 
-use crate::Memory;
 use indexmap::IndexSet;
 use setl_code::OwnName;
 use setl_modes::NamedMode;
 use setl_names::Names;
 use setl_tree::{Param, Text};
-use std::alloc::Global as Allocator;
+use std::alloc::{AllocError, Global as Allocator};
 
 /// The names, or `None` where one stands twice. The error is want of memory.
-pub fn different_names(alloc: Allocator, names: &[Text]) -> Result<Option<Names>, Memory>
+pub fn different_names(alloc: Allocator, names: &[Text]) -> Result<Option<Names>, AllocError>
     ensures { IfOk result (λ found. MatchOption found (Differ (map Global names.now) → ⊥) (λ all. (all ≡ names.now) × Differ (map Global names.now))) }
 {
     let mut all = Names::new(alloc);
@@ -30,7 +29,7 @@ pub fn different_names(alloc: Allocator, names: &[Text]) -> Result<Option<Names>
 }
 
 /// Whether the names that have these modes differ. The error is want of memory.
-pub fn different_modes(alloc: Allocator, declared: &[NamedMode]) -> Result<bool, Memory>
+pub fn different_modes(alloc: Allocator, declared: &[NamedMode]) -> Result<bool, AllocError>
     ensures { IfOk result (λ so. so ≡ not (has_repeat (declared_names declared.now))) }
 {
     let mut all = Names::new(alloc);
@@ -47,7 +46,7 @@ pub fn own_names_differ(
     alloc: Allocator,
     params: &[Param],
     names: &[OwnName],
-) -> Result<bool, Memory>
+) -> Result<bool, AllocError>
     ensures { (n : ℕ) → IfOk result (λ so. IsTrue so ↔ Differ (own_variables n params.now names.now)) }
 {
     let mut seen = IndexSet::new(alloc);
@@ -61,7 +60,7 @@ pub fn own_names_differ(
 fn put_parameters<'p>(
     seen: &mut IndexSet<(u64, &'p [u8])>,
     params: &'p [Param],
-) -> Result<bool, Memory>
+) -> Result<bool, AllocError>
     ensures new { (n : ℕ) → IfOk result (λ so. so ≡ are_new (variables_seen n seen.old.keys) (map (λ p. Own n p.name) params.now)) }
     ensures seen { (n : ℕ) → IfOk result (λ so. so ≡ true → variables_seen n seen.new.keys ≡ variables_seen n seen.old.keys ++ map (λ p. Own n p.name) params.now) }
 {
@@ -74,7 +73,10 @@ fn put_parameters<'p>(
 }
 
 // The same of own names.
-fn put_names<'p>(seen: &mut IndexSet<(u64, &'p [u8])>, names: &'p [OwnName]) -> Result<bool, Memory>
+fn put_names<'p>(
+    seen: &mut IndexSet<(u64, &'p [u8])>,
+    names: &'p [OwnName],
+) -> Result<bool, AllocError>
     ensures { (n : ℕ) → IfOk result (λ so. so ≡ are_new (variables_seen n seen.old.keys) (map (plain_name n) names.now)) }
 {
     for name in names {
@@ -86,7 +88,7 @@ fn put_names<'p>(seen: &mut IndexSet<(u64, &'p [u8])>, names: &'p [OwnName]) -> 
 }
 
 // Puts an own name to what was seen, unless it was. It gives whether it is new.
-fn put_name<'p>(seen: &mut IndexSet<(u64, &'p [u8])>, name: &'p OwnName) -> Result<bool, Memory>
+fn put_name<'p>(seen: &mut IndexSet<(u64, &'p [u8])>, name: &'p OwnName) -> Result<bool, AllocError>
     ensures new { (n : ℕ) → IfOk result (λ new. new ≡ not (is_among (variables_seen n seen.old.keys) (plain_name n name.now))) }
     ensures seen { (n : ℕ) → IfOk result (λ new. new ≡ true → variables_seen n seen.new.keys ≡ variables_seen n seen.old.keys ++ plain_name n name.now ∷ []) }
 {
@@ -101,7 +103,7 @@ fn put<'p>(
     seen: &mut IndexSet<(u64, &'p [u8])>,
     former: u64,
     name: &'p [u8],
-) -> Result<bool, Memory>
+) -> Result<bool, AllocError>
     ensures new { (n : ℕ) → IfOk result (λ new. new ≡ not (is_among (variables_seen n seen.old.keys) (own_variable n former name.now))) }
     ensures seen { (n : ℕ) → IfOk result (λ new. new ≡ true → variables_seen n seen.new.keys ≡ variables_seen n seen.old.keys ++ own_variable n former name.now ∷ []) }
 {

@@ -8,4 +8,3 @@ pub use declared::{own_declared, stand_once};
 pub use differing::{different_modes, different_names, own_names_differ};
 
 /// Want of memory.
-pub use std::alloc::AllocError as Memory;

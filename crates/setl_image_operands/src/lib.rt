@@ -6,4 +6,3 @@ mod shapes;
 pub use shapes::{Signature, has_shapes, signatures};
 
 /// Want of memory.
-pub use std::alloc::AllocError as Memory;

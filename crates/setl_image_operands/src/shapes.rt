@@ -8,11 +8,10 @@ ghost use Rattle.setl_code.specs.Plain.{plain_bodies, plain_step, Variables};
 ghost use Rattle.setl_code.specs.Shapes.{handed, one_more};
 ghost use Rattle.setl_image_operands.specs.Operands.{HasShapes, alter_effect, call_effect, effect_at, effect_of, iterator_of, signature_of};
 
-use crate::Memory;
 use setl_code::{Alteration, Begin, Body, Instr, Step};
 use setl_image_shapes::{Effect, Kind, has_table};
 use setl_tree::{Param, Passing};
-use std::alloc::Global;
+use std::alloc::{AllocError, Global};
 
 /// How many results a call of a body pops, and how many parameters are handed back.
 #[derive(Clone, Copy)]
@@ -22,7 +21,7 @@ pub struct Signature {
 }
 
 /// The signatures of bodies. The error is want of memory. It is also the answer where a body has 2^32 parameters.
-pub fn signatures(alloc: Global, bodies: &[Body]) -> Result<Vec<Signature>, Memory>
+pub fn signatures(alloc: Global, bodies: &[Body]) -> Result<Vec<Signature>, AllocError>
     ensures { (vars : List Variable) (n : ℕ) → IfOk result (λ calls. calls.items ≡ map signature_of (plain_bodies vars n bodies.now)) }
 {
     let mut calls = Vec::with_capacity(alloc, bodies.len())?;
@@ -36,7 +35,7 @@ pub fn signatures(alloc: Global, bodies: &[Body]) -> Result<Vec<Signature>, Memo
 /// none lacks one. `calls` has the signatures of all bodies.
 ///
 /// The error is want of memory. It is also the answer where an instruction has 2^32 selectors.
-pub fn has_shapes(alloc: Global, calls: &[Signature], steps: &[Step]) -> Result<bool, Memory>
+pub fn has_shapes(alloc: Global, calls: &[Signature], steps: &[Step]) -> Result<bool, AllocError>
     requires few { length steps.now < 2 ^ 32 }
     ensures { (bodies : List plain.Body) (xs : Variables) → calls.now ≡ map signature_of bodies → IfOk result (λ so. HasShapes so bodies (map (plain_step xs) steps.now)) }
 {
@@ -45,7 +44,7 @@ pub fn has_shapes(alloc: Global, calls: &[Signature], steps: &[Step]) -> Result<
 }
 
 // The signature of a body with these parameters.
-fn signature_from(params: &[Param]) -> Result<Signature, Memory>
+fn signature_from(params: &[Param]) -> Result<Signature, AllocError>
     ensures { IfOk result (λ s. s ≡ record { popped = length params.now; back = handed (map parameter_of params.now) }) }
 {
     let popped = narrow(params.len())?;
@@ -55,7 +54,7 @@ fn signature_from(params: &[Param]) -> Result<Signature, Memory>
 
 // How many parameters are handed back.
 #[tactic(auto, using(crate::proofs::Linking::handed_next))]
-fn handed_back(params: &[Param]) -> Result<u32, Memory>
+fn handed_back(params: &[Param]) -> Result<u32, AllocError>
     ensures { IfOk result (λ n. n ≡ handed (map parameter_of params.now)) }
 {
     let mut back: u32 = 0;
@@ -66,28 +65,28 @@ fn handed_back(params: &[Param]) -> Result<u32, Memory>
 }
 
 // One more where a parameter is handed back.
-fn one_more(passing: Passing, n: u32) -> Result<u32, Memory>
+fn one_more(passing: Passing, n: u32) -> Result<u32, AllocError>
     ensures { IfOk result (λ m. m ≡ one_more passing n) }
 {
     match passing {
         Passing::Rd => Ok(n),
-        Passing::Wr | Passing::Rw => n.checked_add(1).ok_or(Memory),
+        Passing::Wr | Passing::Rw => n.checked_add(1).ok_or(AllocError),
     }
 }
 
 // The number in 32 bits.
-fn narrow(n: usize) -> Result<u32, Memory>
+fn narrow(n: usize) -> Result<u32, AllocError>
     ensures { IfOk result (λ m. m ≡ n) }
 {
     if n < 1 << 32 {
         Ok(n as u32)
     } else {
-        Err(Memory)
+        Err(AllocError)
     }
 }
 
 // What the steps do with operands.
-fn effects(alloc: Global, calls: &[Signature], steps: &[Step]) -> Result<Vec<Effect>, Memory>
+fn effects(alloc: Global, calls: &[Signature], steps: &[Step]) -> Result<Vec<Effect>, AllocError>
     ensures { IfOk result (λ effects. effects.items ≡ map (effect_at calls.now) steps.now) }
 {
     let mut effects = Vec::with_capacity(alloc, steps.len())?;
@@ -98,7 +97,7 @@ fn effects(alloc: Global, calls: &[Signature], steps: &[Step]) -> Result<Vec<Eff
 }
 
 // What an instruction does with operands.
-fn effect_of(calls: &[Signature], what: &Instr) -> Result<Effect, Memory>
+fn effect_of(calls: &[Signature], what: &Instr) -> Result<Effect, AllocError>
     ensures { IfOk result (λ effect. effect ≡ effect_of calls.now what.now) }
 {
     let effect = match what {
@@ -129,7 +128,7 @@ fn effect_of(calls: &[Signature], what: &Instr) -> Result<Effect, Memory>
 }
 
 // What an update with so many selectors does with operands.
-fn alter_effect(alteration: Alteration, selectors: usize) -> Result<Effect, Memory>
+fn alter_effect(alteration: Alteration, selectors: usize) -> Result<Effect, AllocError>
     ensures { IfOk result (λ effect. effect ≡ alter_effect alteration selectors) }
 {
     let count = narrow(selectors)?;

@@ -7,4 +7,3 @@ mod search;
 pub use search::heights;
 
 /// Want of memory.
-pub use std::alloc::AllocError as Memory;

@@ -3,9 +3,8 @@
 ghost use Rattle.std.specs.Prelude.{◌≡◌, ◌<◌, ◌-◌, ◌^◌, ℕ, List, false, true, length, get_or, MatchOption, IfOk, OnOk};
 ghost use Rattle.setl_image_rounds.specs.Falling.{Done, Entered, Fall, IsOpenWay, IsTop, Left, Searching, Stepped};
 
-use crate::Memory;
 use setl_live_reads::Way;
-use std::alloc::Global;
+use std::alloc::{AllocError, Global};
 
 /// A depth-first search: the heights of the steps that are done, how many these are, which steps were entered, and the
 /// path that leads to the step in hand.
@@ -20,7 +19,7 @@ pub struct Search {
 /// Heights that fall along each way, or `None` where there are none, since a way comes back to the step where it began.
 /// The error is want of memory.
 #[tactic(auto, using(crate::proofs::Steps::done_more, crate::proofs::Steps::all_fall))]
-pub fn heights(alloc: Global, all: &[Way]) -> Result<Option<Vec<u32>>, Memory>
+pub fn heights(alloc: Global, all: &[Way]) -> Result<Option<Vec<u32>>, AllocError>
     requires few { length all.now < 2 ^ 32 }
     ensures { IfOk result (λ found. MatchOption found ((hs : List ℕ) → Fall all.now hs → ⊥) (λ hs. Fall all.now hs.items)) }
 {
@@ -40,7 +39,7 @@ pub fn heights(alloc: Global, all: &[Way]) -> Result<Option<Vec<u32>>, Memory>
 }
 
 // Does a step and all that its ways reach. False where a way comes back to the step where it began.
-fn climb(search: &mut Search, all: &[Way], from: usize) -> Result<bool, Memory>
+fn climb(search: &mut Search, all: &[Way], from: usize) -> Result<bool, AllocError>
     requires few { length all.now < 2 ^ 32 }
     requires within { from < length all.now }
     requires search { Searching all.now search.old }
@@ -64,7 +63,7 @@ fn climb(search: &mut Search, all: &[Way], from: usize) -> Result<bool, Memory>
 }
 
 // One step of the search, at the last step of the path. False where a way comes back to the step where it began.
-fn step(search: &mut Search, all: &[Way], at: usize) -> Result<bool, Memory>
+fn step(search: &mut Search, all: &[Way], at: usize) -> Result<bool, AllocError>
     requires few { length all.now < 2 ^ 32 }
     requires search { Searching all.now search.old }
     requires top { IsTop search.old at }
@@ -104,7 +103,7 @@ fn finish(search: &mut Search, at: usize)
 }
 
 // Enters a step.
-fn enter(search: &mut Search, to: usize) -> Result<(), Memory>
+fn enter(search: &mut Search, to: usize) -> Result<(), AllocError>
     requires within { to < length search.old.entered.items }
     requires few { to < 2 ^ 32 }
     ensures { OnOk result (Entered search.old to search.new) }

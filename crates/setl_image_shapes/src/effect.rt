@@ -5,8 +5,8 @@ ghost use Rattle.setl_code.specs.Shapes.{AResult, lead, next_outs, without_resul
 ghost use Rattle.setl_image_shapes.specs.declared.effect.Effect.TheVariants.{Results, Puts, Calls, Begins, Adds, Leaves};
 ghost use Rattle.setl_image_shapes.specs.Effects.{Led, leads};
 
-use crate::Memory;
 use crate::stacks::{Kind, Stacks};
+use std::alloc::AllocError;
 
 /// What a step does with the operands, and where it leads.
 #[derive(Clone, Copy)]
@@ -58,7 +58,7 @@ pub fn leads(
     effect: Effect,
     at: usize,
     number: usize,
-) -> Result<Option<Ways>, Memory>
+) -> Result<Option<Ways>, AllocError>
     requires { number < length stacks.old }
     ensures { IfOk result (λ found. Led stacks.old stacks.new found (leads effect at (get_or stacks.old number []))) }
 {
@@ -88,7 +88,7 @@ fn results(
     pushed: u32,
     at: usize,
     number: usize,
-) -> Result<Option<Ways>, Memory>
+) -> Result<Option<Ways>, AllocError>
     requires { number < length stacks.old }
     ensures { IfOk result (λ found. Led stacks.old stacks.new found (leads (Results popped pushed) at (get_or stacks.old number []))) }
 {
@@ -108,7 +108,7 @@ fn put(
     selectors: u32,
     at: usize,
     number: usize,
-) -> Result<Option<Ways>, Memory>
+) -> Result<Option<Ways>, AllocError>
     requires { number < length stacks.old }
     ensures { IfOk result (λ found. Led stacks.old stacks.new found (leads (Puts selectors) at (get_or stacks.old number []))) }
 {
@@ -131,7 +131,7 @@ fn call(
     back: u32,
     at: usize,
     number: usize,
-) -> Result<Option<Ways>, Memory>
+) -> Result<Option<Ways>, AllocError>
     requires { number < length stacks.old }
     ensures { IfOk result (λ found. Led stacks.old stacks.new found (leads (Calls popped back) at (get_or stacks.old number []))) }
 {
@@ -153,7 +153,7 @@ fn begin(
     kind: Kind,
     at: usize,
     number: usize,
-) -> Result<Option<Ways>, Memory>
+) -> Result<Option<Ways>, AllocError>
     requires { number < length stacks.old }
     ensures { IfOk result (λ found. Led stacks.old stacks.new found (leads (Begins popped kind) at (get_or stacks.old number []))) }
 {
@@ -168,7 +168,12 @@ fn begin(
 }
 
 // Pops a result, and goes on or to a step.
-fn test(stacks: &mut Stacks, to: usize, at: usize, number: usize) -> Result<Option<Ways>, Memory>
+fn test(
+    stacks: &mut Stacks,
+    to: usize,
+    at: usize,
+    number: usize,
+) -> Result<Option<Ways>, AllocError>
     requires { number < length stacks.old }
     ensures { IfOk result (λ found. Led stacks.old stacks.new found (lead (without_results 1 (get_or stacks.old number [])) (λ t. (at, t) ∷ (to, t) ∷ []))) }
 {
@@ -187,7 +192,12 @@ fn test(stacks: &mut Stacks, to: usize, at: usize, number: usize) -> Result<Opti
 }
 
 // Pops a result and goes on, or goes to a step with a result.
-fn decide(stacks: &mut Stacks, to: usize, at: usize, number: usize) -> Result<Option<Ways>, Memory>
+fn decide(
+    stacks: &mut Stacks,
+    to: usize,
+    at: usize,
+    number: usize,
+) -> Result<Option<Ways>, AllocError>
     requires { number < length stacks.old }
     ensures { IfOk result (λ found. Led stacks.old stacks.new found (lead (without_results 1 (get_or stacks.old number [])) (λ t. (at, t) ∷ (to, AResult ∷ t) ∷ []))) }
 {
@@ -207,7 +217,12 @@ fn decide(stacks: &mut Stacks, to: usize, at: usize, number: usize) -> Result<Op
 }
 
 // Pushes what the iterator on top gives and goes on, or drops it and goes to a step.
-fn next(stacks: &mut Stacks, to: usize, at: usize, number: usize) -> Result<Option<Ways>, Memory>
+fn next(
+    stacks: &mut Stacks,
+    to: usize,
+    at: usize,
+    number: usize,
+) -> Result<Option<Ways>, AllocError>
     requires { number < length stacks.old }
     ensures { IfOk result (λ found. Led stacks.old stacks.new found (next_outs at to (get_or stacks.old number []))) }
 {
@@ -233,7 +248,12 @@ fn next(stacks: &mut Stacks, to: usize, at: usize, number: usize) -> Result<Opti
 }
 
 // Pops a result, where a collection stands below so many iterators.
-fn add(stacks: &mut Stacks, levels: u32, at: usize, number: usize) -> Result<Option<Ways>, Memory>
+fn add(
+    stacks: &mut Stacks,
+    levels: u32,
+    at: usize,
+    number: usize,
+) -> Result<Option<Ways>, AllocError>
     requires { number < length stacks.old }
     ensures { IfOk result (λ found. Led stacks.old stacks.new found (leads (Adds levels) at (get_or stacks.old number []))) }
 {
@@ -253,7 +273,12 @@ fn add(stacks: &mut Stacks, levels: u32, at: usize, number: usize) -> Result<Opt
 }
 
 // Drops so many iterators.
-fn leave(stacks: &mut Stacks, levels: u32, at: usize, number: usize) -> Result<Option<Ways>, Memory>
+fn leave(
+    stacks: &mut Stacks,
+    levels: u32,
+    at: usize,
+    number: usize,
+) -> Result<Option<Ways>, AllocError>
     requires { number < length stacks.old }
     ensures { IfOk result (λ found. Led stacks.old stacks.new found (leads (Leaves levels) at (get_or stacks.old number []))) }
 {
@@ -267,7 +292,7 @@ fn leave(stacks: &mut Stacks, levels: u32, at: usize, number: usize) -> Result<O
 }
 
 // Pops so many results.
-fn end(stacks: &mut Stacks, popped: u32, number: usize) -> Result<Option<Ways>, Memory>
+fn end(stacks: &mut Stacks, popped: u32, number: usize) -> Result<Option<Ways>, AllocError>
     requires { number < length stacks.old }
     ensures { IfOk result (λ found. Led stacks.old stacks.new found (lead (without_results popped (get_or stacks.old number [])) (λ t. []))) }
 {

@@ -10,4 +10,3 @@ pub use stacks::Kind;
 pub use walk::has_table;
 
 /// Want of memory.
-pub use std::alloc::AllocError as Memory;

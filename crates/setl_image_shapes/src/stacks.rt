@@ -5,8 +5,7 @@ ghost use Rattle.setl_code.specs.Shapes.{Shape, all_serve, if_collection, serves
 ghost use Rattle.setl_image_shapes.specs.Joins.{joined, joined_kind};
 ghost use Rattle.setl_image_shapes.specs.Runs.{Finds, Grown, IsAt, IsTop, is_level, laid, on, plain_kind, without};
 
-use crate::Memory;
-use std::alloc::Global;
+use std::alloc::{AllocError, Global};
 use std::marker::Model;
 
 /// What stands on a stack.
@@ -68,7 +67,7 @@ impl Stacks {
     }
 
     /// The number of so many of a kind on a stack. The error is want of memory.
-    pub fn push(&mut self, kind: Kind, count: u32, below: usize) -> Result<usize, Memory>
+    pub fn push(&mut self, kind: Kind, count: u32, below: usize) -> Result<usize, AllocError>
         requires { below < length self.old }
         ensures grown { Grown self.old self.new }
         ensures pushed { IfOk result (λ k. IsAt self.new k (on (plain_kind kind) count (get_or self.old below []))) }
@@ -99,7 +98,7 @@ impl Stacks {
         level: bool,
         count: u32,
         number: usize,
-    ) -> Result<Option<usize>, Memory>
+    ) -> Result<Option<usize>, AllocError>
         requires { number < length self.old }
         ensures grown { Grown self.old self.new }
         ensures found { IfOk result (λ found. Finds self.new found (without level count (get_or self.old number []))) }
@@ -140,7 +139,7 @@ impl Stacks {
     }
 
     /// Whether the kinds of a stack serve where those of another one are said. The error is want of memory.
-    pub fn serves(&mut self, number: usize, other: usize) -> Result<bool, Memory>
+    pub fn serves(&mut self, number: usize, other: usize) -> Result<bool, AllocError>
         requires number { number < length self.old }
         requires other { other < length self.old }
         ensures grown { Grown self.old self.new }
@@ -173,7 +172,7 @@ impl Stacks {
         alloc: Global,
         number: usize,
         other: usize,
-    ) -> Result<Option<usize>, Memory>
+    ) -> Result<Option<usize>, AllocError>
         requires number { number < length self.old }
         requires other { other < length self.old }
         ensures grown { Grown self.old self.new }
@@ -204,7 +203,7 @@ impl Stacks {
     }
 
     // Parts on a stack, the first one on top.
-    fn lay(&mut self, mut parts: Vec<Part>, number: usize) -> Result<usize, Memory>
+    fn lay(&mut self, mut parts: Vec<Part>, number: usize) -> Result<usize, AllocError>
         requires { number < length self.old }
         ensures grown { Grown self.old self.new }
         ensures laid { IfOk result (λ k. IsAt self.new k (laid parts.items (get_or self.old number []))) }

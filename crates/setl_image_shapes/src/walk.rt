@@ -4,10 +4,9 @@ ghost use Rattle.std.specs.Prelude.{◌≡◌, ◌<◌, ◌^◌, [], ◌∷◌, 
 ghost use Rattle.setl_image_shapes.specs.Effects.{AreWays, outs_of};
 ghost use Rattle.setl_image_shapes.specs.Tables.{AreThere, Came, Changed, Going, GoesOn, HasTable, table_of};
 
-use crate::Memory;
 use crate::effect::{Effect, Place, Ways, leads};
 use crate::stacks::Stacks;
-use std::alloc::Global;
+use std::alloc::{AllocError, Global};
 
 /// The number of the stack found for each step that is reached, and the steps from which the walk has to go on.
 #[derive(Drop)]
@@ -21,7 +20,7 @@ pub struct Walk {
 ///
 /// A step is looked at once more each time that its shape becomes weaker, which it does once at most for each collection
 /// that its shape says.
-pub fn has_table(alloc: Global, effects: &[Effect]) -> Result<bool, Memory>
+pub fn has_table(alloc: Global, effects: &[Effect]) -> Result<bool, AllocError>
     requires few { length effects.now < 2 ^ 32 }
     ensures { IfOk result (λ so. HasTable so effects.now) }
 {
@@ -43,7 +42,7 @@ pub fn has_table(alloc: Global, effects: &[Effect]) -> Result<bool, Memory>
 }
 
 // No stack for any of so many steps. The error is want of memory.
-fn nothing_found(alloc: Global, count: usize) -> Result<Vec<Option<usize>>, Memory>
+fn nothing_found(alloc: Global, count: usize) -> Result<Vec<Option<usize>>, AllocError>
     ensures { IfOk result (λ found. found.items ≡ replicate count None) }
 {
     let mut found = Vec::with_capacity(alloc, count)?;
@@ -54,7 +53,7 @@ fn nothing_found(alloc: Global, count: usize) -> Result<Vec<Option<usize>>, Memo
 }
 
 // One step of the walk, from this step. False where there is no table.
-fn step(alloc: Global, walk: &mut Walk, effects: &[Effect], at: usize) -> Result<bool, Memory>
+fn step(alloc: Global, walk: &mut Walk, effects: &[Effect], at: usize) -> Result<bool, AllocError>
     requires few { length effects.now < 2 ^ 32 }
     requires there { AreThere walk.old.stacks walk.old.found.items }
     requires going { Going effects.now (table_of walk.old.stacks walk.old.found.items) (walk.old.pending.items ++ at ∷ []) }
@@ -70,7 +69,7 @@ fn step(alloc: Global, walk: &mut Walk, effects: &[Effect], at: usize) -> Result
 }
 
 // Arrives where a step leads. False where no table says so.
-fn arrive_all(alloc: Global, walk: &mut Walk, ways: Ways) -> Result<bool, Memory>
+fn arrive_all(alloc: Global, walk: &mut Walk, ways: Ways) -> Result<bool, AllocError>
     requires there { AreThere walk.old.stacks walk.old.found.items }
     requires stacks { AreWays walk.old.stacks ways }
     ensures { IfOk result (λ so. Came so walk.old (outs_of walk.old.stacks ways) walk.new) }
@@ -88,7 +87,7 @@ fn arrive_all(alloc: Global, walk: &mut Walk, ways: Ways) -> Result<bool, Memory
 }
 
 // Arrives at a step with a stack. False where no table says so.
-fn arrive(alloc: Global, walk: &mut Walk, place: Place) -> Result<bool, Memory>
+fn arrive(alloc: Global, walk: &mut Walk, place: Place) -> Result<bool, AllocError>
     requires there { AreThere walk.old.stacks walk.old.found.items }
     requires stack { place.stack < length walk.old.stacks }
     ensures { IfOk result (λ so. Came so walk.old ((place.step, get_or walk.old.stacks place.stack []) ∷ []) walk.new) }
@@ -111,7 +110,7 @@ fn arrive(alloc: Global, walk: &mut Walk, place: Place) -> Result<bool, Memory>
 }
 
 // Notes the stack of a step, from which the walk has to go on then.
-fn change(walk: &mut Walk, to: usize, number: usize) -> Result<(), Memory>
+fn change(walk: &mut Walk, to: usize, number: usize) -> Result<(), AllocError>
     requires { to < length walk.old.found.items }
     ensures { OnOk result (Changed walk.old to number walk.new) }
 {

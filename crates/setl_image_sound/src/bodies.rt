@@ -8,18 +8,17 @@ ghost use Rattle.setl_image.specs.Views.{image_of};
 ghost use Rattle.setl_live.specs.Slots.{OnlyMain, TellsDeclared, with_all_main};
 ghost use Rattle.setl_image_sound.specs.SoundImage.{SoundParts, declared_of};
 
-use crate::Memory;
 use crate::parts::is_part;
 use setl_code::Body;
 use setl_image::Image;
 use setl_image_operands::{Signature, signatures};
 use setl_live::declared_among;
 use setl_names::Names;
-use std::alloc::Global;
+use std::alloc::{AllocError, Global};
 
 /// Whether all bodies are those of a sound image. `own` are the names of the declared variables that are the main program's
 /// own.
-pub(crate) fn are_sound(alloc: Global, image: &Image, own: &Names) -> Result<bool, Memory>
+pub(crate) fn are_sound(alloc: Global, image: &Image, own: &Names) -> Result<bool, AllocError>
     requires own { own.now ≡ with_all_main [] (declared_of (image_of image.now)) }
     ensures { IfOk result (λ so. IsTrue so ↔ SoundParts image.now.code (declared_of (image_of image.now))) }
 {
@@ -30,7 +29,7 @@ pub(crate) fn are_sound(alloc: Global, image: &Image, own: &Names) -> Result<boo
 }
 
 // Which own slots of the main program are declared.
-fn main_table(alloc: Global, bodies: &[Body], own: &Names) -> Result<Vec<bool>, Memory>
+fn main_table(alloc: Global, bodies: &[Body], own: &Names) -> Result<Vec<bool>, AllocError>
     ensures { (declared : List Variable) → OnlyMain declared → own.now ≡ with_all_main [] declared → IfOk result (λ table. TellsDeclared declared (slice_get bodies.now 0) table.items) }
 {
     match bodies.first() {
@@ -46,7 +45,7 @@ fn all_are_sound(
     bodies: &[Body],
     calls: &[Signature],
     table: &[bool],
-) -> Result<bool, Memory>
+) -> Result<bool, AllocError>
     requires bodies { bodies.now ≡ image.now.code.bodies }
     requires calls { calls.now ≡ map signature_of (plain_code image.now.code).bodies }
     requires table { TellsDeclared (declared_of (image_of image.now)) (slice_get image.now.code.bodies 0) table.now }

@@ -12,4 +12,3 @@ pub use laws::sound_images_run;
 pub use verifying::{VerifyFault, verify};
 
 /// Want of memory.
-pub use std::alloc::AllocError as Memory;

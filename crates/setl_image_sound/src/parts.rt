@@ -10,7 +10,6 @@ ghost use Rattle.setl_live.specs.Slots.{TellsDeclared};
 ghost use Rattle.setl_image_sound.specs.Counts.{few_in, few_of, is_bare};
 ghost use Rattle.setl_image_sound.specs.SoundImage.{HasHeights, HasTable, SoundPart, declared_of};
 
-use crate::Memory;
 use setl_code::{Body, Code};
 use setl_image::Image;
 use setl_image_closed::is_closed;
@@ -18,7 +17,7 @@ use setl_image_names::own_names_differ;
 use setl_image_operands::{Signature, has_shapes};
 use setl_image_verify::falling_heights;
 use setl_live::takes_are_last;
-use std::alloc::Global;
+use std::alloc::{AllocError, Global};
 
 /// Whether an image has bodies, few enough of everything, and no parameters of its main program.
 pub(crate) fn are_few(image: &Image) -> bool
@@ -64,7 +63,7 @@ pub(crate) fn is_part(
     n: usize,
     body: &Body,
     table: &[bool],
-) -> Result<bool, Memory>
+) -> Result<bool, AllocError>
     requires calls { calls.now ≡ map signature_of (plain_code image.now.code).bodies }
     requires table { n ≡ 0 → TellsDeclared (declared_of (image_of image.now)) (Some body.now) table.now }
     ensures { IfOk result (λ so. IsTrue so ↔ SoundPart image.now.code (declared_of (image_of image.now)) n body.now) }
@@ -91,14 +90,14 @@ pub(crate) fn is_part(
 }
 
 // Whether the variables of a body differ.
-fn own_differ(alloc: Global, body: &Body) -> Result<bool, Memory>
+fn own_differ(alloc: Global, body: &Body) -> Result<bool, AllocError>
     ensures { (n : ℕ) → IfOk result (λ so. IsTrue so ↔ Differ (own_variables n body.now.parameters body.now.names)) }
 {
     own_names_differ(alloc, body.parameters.as_slice(), body.names.as_slice())
 }
 
 // Whether each way round in a body takes a turn.
-fn has_heights(alloc: Global, body: &Body) -> Result<bool, Memory>
+fn has_heights(alloc: Global, body: &Body) -> Result<bool, AllocError>
     requires few { length body.now.steps < 2 ^ 32 }
     ensures { (xs : Variables) → IfOk result (λ so. IsTrue so ↔ HasHeights (map (plain_step xs) body.now.steps)) }
 {
@@ -107,7 +106,7 @@ fn has_heights(alloc: Global, body: &Body) -> Result<bool, Memory>
 }
 
 // Whether the steps of a body have a table of shapes.
-fn has_table(alloc: Global, calls: &[Signature], body: &Body) -> Result<bool, Memory>
+fn has_table(alloc: Global, calls: &[Signature], body: &Body) -> Result<bool, AllocError>
     requires few { length body.now.steps < 2 ^ 32 }
     ensures { (bodies : List plain.Body) (xs : Variables) → calls.now ≡ map signature_of bodies → IfOk result (λ so. IsTrue so ↔ HasTable bodies (map (plain_step xs) body.now.steps)) }
 {

@@ -7,7 +7,6 @@ ghost use Rattle.setl_live.specs.Slots.{with_all_main};
 ghost use Rattle.setl_image_names.specs.Once.{StandsOnce, declared_names};
 ghost use Rattle.setl_image_sound.specs.SoundImage.{SoundImage, IfUnsound, NamesStand, SoundNames, declared_of, main_names};
 
-use crate::Memory;
 use crate::bodies::are_sound;
 use crate::parts::are_few;
 use setl_code::{Body, OwnName};
@@ -54,7 +53,7 @@ pub fn verify(alloc: Global, image: &Image) -> Result<(), VerifyFault>
 }
 
 // The same as a truth value.
-fn is_sound(alloc: Global, image: &Image) -> Result<bool, Memory>
+fn is_sound(alloc: Global, image: &Image) -> Result<bool, AllocError>
     ensures { IfOk result (λ so. IsTrue so ↔ SoundImage (image_of image.now)) }
 {
     if !are_few(image) {
@@ -71,7 +70,7 @@ fn is_sound(alloc: Global, image: &Image) -> Result<bool, Memory>
 }
 
 // The declared names that are the main program's own, or `None` where the names aren't sound.
-fn sound_names(alloc: Global, image: &Image) -> Result<Option<Names>, Memory>
+fn sound_names(alloc: Global, image: &Image) -> Result<Option<Names>, AllocError>
     ensures { IfOk result (λ found. MatchOption found (SoundNames (image_of image.now) → ⊥) (λ own. SoundNames (image_of image.now) × (own ≡ with_all_main [] (declared_of (image_of image.now))))) }
 {
     let found = different_names(alloc, image.code.vars.as_slice())?;
@@ -82,7 +81,7 @@ fn sound_names(alloc: Global, image: &Image) -> Result<Option<Names>, Memory>
 }
 
 // The same, where the names in `var` differ and are these.
-fn own_of(alloc: Global, image: &Image, vars: &Names) -> Result<Option<Names>, Memory>
+fn own_of(alloc: Global, image: &Image, vars: &Names) -> Result<Option<Names>, AllocError>
     requires vars { vars.now ≡ image.now.code.vars }
     ensures { IfOk result (λ found. MatchOption found (NamesStand (image_of image.now) → ⊥) (λ own. NamesStand (image_of image.now) × (own ≡ with_all_main [] (declared_of (image_of image.now))))) }
 {
@@ -96,7 +95,7 @@ fn own_of(alloc: Global, image: &Image, vars: &Names) -> Result<Option<Names>, M
 
 // Whether no base and no variable is declared twice, and each declared name is in `var`, which has these names, or one of the
 // main body's own.
-fn names_stand(alloc: Global, image: &Image, vars: &Names) -> Result<bool, Memory>
+fn names_stand(alloc: Global, image: &Image, vars: &Names) -> Result<bool, AllocError>
     requires vars { vars.now ≡ image.now.code.vars }
     ensures { IfOk result (λ so. IsTrue so ↔ NamesStand (image_of image.now)) }
 {
@@ -112,7 +111,7 @@ fn names_stand(alloc: Global, image: &Image, vars: &Names) -> Result<bool, Memor
 }
 
 // Whether each declared name is in `var`, which has these names, or one of the main body's own, and not in both.
-fn all_stand(alloc: Global, image: &Image, vars: &Names) -> Result<bool, Memory>
+fn all_stand(alloc: Global, image: &Image, vars: &Names) -> Result<bool, AllocError>
     ensures { IfOk result (λ so. IsTrue so ↔ AllByRecursion (StandsOnce vars.now (main_names image.now.code.bodies)) (declared_names image.now.modes.vars)) }
 {
     let main = main_own(image.code.bodies.as_slice());

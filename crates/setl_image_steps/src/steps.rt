@@ -23,8 +23,7 @@ use setl_image_format::Row;
 use setl_operators_table::Operator;
 use setl_program::{Collection, Connective, Source, Taking};
 use setl_tree::{Boxed, Items};
-use setl_value::Memory;
-use std::alloc::Global;
+use std::alloc::{AllocError, Global};
 
 // The slot at the front, where there is that slot.
 fn read_slot(globals: usize, own: u128, bytes: &[u8]) -> Result<(Slot, &[u8]), ImageFault>
@@ -125,7 +124,7 @@ impl Coder for BracketCoder {
         read_bracket(bytes)
     }
 
-    fn push(&self, into: &mut Vec<u8>, x: &Bracket) -> Result<(), Memory> {
+    fn push(&self, into: &mut Vec<u8>, x: &Bracket) -> Result<(), AllocError> {
         into.push(match x {
             Bracket::Round => 0,
             Bracket::Brace => 1,
@@ -366,14 +365,14 @@ impl Coder for StepCoder {
         Ok((Step { line, what }, behind))
     }
 
-    fn push(&self, into: &mut Vec<u8>, x: &Step) -> Result<(), Memory> {
+    fn push(&self, into: &mut Vec<u8>, x: &Step) -> Result<(), AllocError> {
         push_number(into, x.line)?;
         push_instr(into, self.globals, self.own, &x.what)
     }
 }
 
 // Adds a slot.
-fn push_slot(into: &mut Vec<u8>, globals: usize, own: u128, x: Slot) -> Result<(), Memory>
+fn push_slot(into: &mut Vec<u8>, globals: usize, own: u128, x: Slot) -> Result<(), AllocError>
     requires { (spec.a_slot globals own).Fits x }
     ensures { OnOk result (into.new.items ≡ into.old.items ++ (spec.a_slot globals own).write x) }
 {
@@ -391,7 +390,7 @@ fn push_place(
     own: u128,
     x: Slot,
     brackets: &[Bracket],
-) -> Result<(), Memory>
+) -> Result<(), AllocError>
     requires { (spec.a_place globals own).Fits (x, brackets.now) }
     ensures { OnOk result (into.new.items ≡ into.old.items ++ (spec.a_place globals own).write (x, brackets.now)) }
 {
@@ -400,7 +399,7 @@ fn push_place(
 }
 
 // Adds an instruction.
-fn push_instr(into: &mut Vec<u8>, globals: usize, own: u128, what: &Instr) -> Result<(), Memory>
+fn push_instr(into: &mut Vec<u8>, globals: usize, own: u128, what: &Instr) -> Result<(), AllocError>
     requires { (spec.instr globals own).Fits what.now }
     ensures { OnOk result (into.new.items ≡ into.old.items ++ (spec.instr globals own).write what.now) }
 {
@@ -410,7 +409,12 @@ fn push_instr(into: &mut Vec<u8>, globals: usize, own: u128, what: &Instr) -> Re
 
 // Adds the operands of an instruction.
 #[tactic(auto, using(crate::proofs::Operators::operate_writes))]
-fn push_operands(into: &mut Vec<u8>, globals: usize, own: u128, what: &Instr) -> Result<(), Memory>
+fn push_operands(
+    into: &mut Vec<u8>,
+    globals: usize,
+    own: u128,
+    what: &Instr,
+) -> Result<(), AllocError>
     requires { (spec.behind globals own (table.row_at (table.tag what.now))).Fits what.now }
     ensures { OnOk result (into.new.items ≡ into.old.items ++ (spec.behind globals own (table.row_at (table.tag what.now))).write what.now) }
 {
@@ -470,7 +474,7 @@ fn push_update(
     a: Alteration,
     x: Slot,
     brackets: &[Bracket],
-) -> Result<(), Memory>
+) -> Result<(), AllocError>
     requires { (spec.behind globals own (table.row_at (table.tag (Alter a x brackets.now)))).Fits (Alter a x brackets.now) }
     ensures { OnOk result (into.new.items ≡ into.old.items ++ (spec.behind globals own (table.row_at (table.tag (Alter a x brackets.now)))).write (Alter a x brackets.now)) }
 {

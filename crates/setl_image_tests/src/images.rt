@@ -1,6 +1,6 @@
 //! Images are decoded, and encoded again as the same bytes; other bytes are refused.
 
-use setl_image::{ImageFault, Memory, decode, encode};
+use setl_image::{ImageFault, decode, encode};
 use std::alloc::{AllocError, AllocFailed, Global};
 
 // Memory ran out.

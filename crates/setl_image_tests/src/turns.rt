@@ -1,6 +1,6 @@
 //! A way round that takes no turn is found.
 
-use setl_image::{ImageFault, Memory, decode};
+use setl_image::{ImageFault, decode};
 use setl_image_verify::falling_heights;
 use std::alloc::{AllocError, AllocFailed, Global};
 

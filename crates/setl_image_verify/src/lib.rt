@@ -6,4 +6,3 @@ mod turns;
 pub use turns::falling_heights;
 
 /// Want of memory.
-pub use std::alloc::AllocError as Memory;

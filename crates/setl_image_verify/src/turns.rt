@@ -4,15 +4,14 @@ ghost use Rattle.std.specs.Prelude.{◌≡◌, ◌<◌, ◌^◌, ℕ, List, leng
 ghost use Rattle.setl_code.specs.Plain.{plain_step, Variables};
 ghost use Rattle.setl_image_verify.specs.Turns.{free_way, free_way_of, HeightsFall};
 
-use crate::Memory;
 use setl_code::{Instr, Step};
 use setl_image_rounds::heights;
 use setl_live_reads::Way;
-use std::alloc::Global;
+use std::alloc::{AllocError, Global};
 
 /// Heights of steps that fall at each step that takes no turn; or `None` where there are none, which is where some way
 /// comes back to the step where it began and takes no turn. The error is want of memory.
-pub fn falling_heights(alloc: Global, steps: &[Step]) -> Result<Option<Vec<u32>>, Memory>
+pub fn falling_heights(alloc: Global, steps: &[Step]) -> Result<Option<Vec<u32>>, AllocError>
     requires few { length steps.now < 2 ^ 32 }
     ensures { (xs : Variables) → IfOk result (λ found. MatchOption found ((hs : List ℕ) → HeightsFall (map (plain_step xs) steps.now) hs → ⊥) (λ hs. HeightsFall (map (plain_step xs) steps.now) hs.items)) }
 {
@@ -21,7 +20,7 @@ pub fn falling_heights(alloc: Global, steps: &[Step]) -> Result<Option<Vec<u32>>
 }
 
 // Where steps lead without a turn.
-fn free_ways(alloc: Global, steps: &[Step]) -> Result<Vec<Way>, Memory>
+fn free_ways(alloc: Global, steps: &[Step]) -> Result<Vec<Way>, AllocError>
     ensures { IfOk result (λ ways. ways.items ≡ map free_way_of steps.now) }
 {
     let mut ways = Vec::with_capacity(alloc, steps.len())?;

@@ -4,9 +4,8 @@ ghost use Rattle.std.specs.Option.{option_map};
 ghost use Rattle.std.specs.FinMap as map;
 ghost use Rattle.setl_io.specs.code.TextMap.{TextMap, text_map_code, text_map};
 
-use crate::Memory;
 use indexmap::IndexMap;
-use std::alloc::Global;
+use std::alloc::{AllocError, Global};
 use std::marker::Model;
 
 /// Texts by name, in the order in which their names came.
@@ -25,7 +24,7 @@ impl Model for NamedTexts {
 
 impl NamedTexts {
     /// Has no text, and room for one.
-    pub fn new(alloc: Global) -> Result<NamedTexts, Memory>
+    pub fn new(alloc: Global) -> Result<NamedTexts, AllocError>
         ensures { IfOk result (λ texts. texts ≡ map.empty) }
     {
         Ok(NamedTexts {
@@ -34,7 +33,7 @@ impl NamedTexts {
     }
 
     /// Puts in a text, in place of the one that has the name.
-    pub fn insert(&mut self, name: String, text: Vec<u8>) -> Result<(), Memory>
+    pub fn insert(&mut self, name: String, text: Vec<u8>) -> Result<(), AllocError>
         ensures ok { OnOk result (self.new ≡ map.insert self.old (string_bytes name) text.items) }
         ensures err { OnErr result (self.new ≡ self.old) }
     {

@@ -12,4 +12,3 @@ pub use slots::declared_among;
 pub use taking::takes_are_last;
 
 /// Want of memory.
-pub use std::alloc::AllocError as Memory;

@@ -9,14 +9,13 @@ ghost use Rattle.setl_program.specs.code.Plain.{plain_declared};
 ghost use Rattle.setl_live.specs.Nodes.{own_load, marked_step, AllMarked, MayTake, BodyMarked, BodyBecomes, refused_in, handed, node};
 ghost use Rattle.setl_live.specs.Slots.{OnlyMain, TellsDeclared};
 
-use crate::Memory;
 use crate::nodes::{handed_back, nodes_of};
 use crate::slots::declared_slots;
 use setl_code::{Body, Code, Instr, Slot, Step};
 use setl_live_reads::last_reads;
 use setl_program::Declared;
 use setl_tree::Items;
-use std::alloc::Global as Allocator;
+use std::alloc::{AllocError, Global as Allocator};
 use std::mem;
 
 /// The own slot that an instruction loads, if it loads one.
@@ -83,12 +82,16 @@ pub(crate) fn are_few(steps: usize, parameters: usize, names: usize) -> bool
 /// Makes `take` of `load` exactly at the last uses of own slots that aren't refused.
 ///
 /// The error is want of memory. It is also the answer where a number would be 2^32 or more.
-pub(crate) fn mark_body(alloc: Allocator, body: &mut Body, refused: &[bool]) -> Result<(), Memory>
+pub(crate) fn mark_body(
+    alloc: Allocator,
+    body: &mut Body,
+    refused: &[bool],
+) -> Result<(), AllocError>
     requires fits { (g : ℕ) × StepsFit g (length body.old.parameters + length body.old.names) body.old.steps }
     ensures { OnOk result (BodyMarked refused.now body.old body.new) }
 {
     if !are_few(body.steps.len(), body.parameters.len(), body.names.len()) {
-        return Err(Memory);
+        return Err(AllocError);
     }
     let nodes = nodes_of(alloc, body.steps.as_slice())?;
     let back = handed_back(alloc, body.parameters.as_slice())?;
@@ -107,7 +110,7 @@ pub(crate) fn refused_of(table: &[bool], n: usize) -> &[bool]
 }
 
 /// Marks all bodies, the main program's first. The table tells which of its own slots are declared.
-fn mark_bodies(alloc: Allocator, bodies: &mut [Body], table: &[bool]) -> Result<(), Memory>
+fn mark_bodies(alloc: Allocator, bodies: &mut [Body], table: &[bool]) -> Result<(), AllocError>
     requires fits { (g : ℕ) × BodiesFit g 0 bodies.old }
     ensures sizes { length bodies.new ≡ length bodies.old }
     ensures marked { OnOk result ((n : ℕ) → BodyBecomes (refused_in table.now n) (slice_get bodies.old n) (slice_get bodies.new n)) }
@@ -120,7 +123,7 @@ fn mark_bodies(alloc: Allocator, bodies: &mut [Body], table: &[bool]) -> Result<
 
 /// The code with `take` for `load` exactly at the last uses of variables that may be taken. `table` tells which of the main
 /// program's own slots are declared.
-fn marked_by(alloc: Allocator, code: Code, table: &[bool]) -> Result<Code, Memory>
+fn marked_by(alloc: Allocator, code: Code, table: &[bool]) -> Result<Code, AllocError>
     requires { MayRun code }
     ensures may_run { IfOk result MayRun }
     ensures marked { IfOk result (λ m. (declared : List Variable) → OnlyMain declared → TellsDeclared declared (slice_get code.bodies 0) table.now → Marked declared (plain_code code) (plain_code m)) }
@@ -138,7 +141,7 @@ fn marked_by(alloc: Allocator, code: Code, table: &[bool]) -> Result<Code, Memor
 /// and none of those that are declared.
 ///
 /// The error is want of memory. It is also the answer where a body has 2^32 steps or more, or 2^31 parameters or names.
-pub fn take_marks(alloc: Allocator, code: Code, declared: &[Declared]) -> Result<Code, Memory>
+pub fn take_marks(alloc: Allocator, code: Code, declared: &[Declared]) -> Result<Code, AllocError>
     requires may_run { MayRun code }
     requires main { OnlyMain (declared_in (map plain_declared declared.now)) }
     ensures may_run { IfOk result MayRun }

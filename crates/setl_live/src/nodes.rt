@@ -4,11 +4,10 @@ ghost use Rattle.std.specs.Prelude.{◌≡◌, map, IfOk};
 ghost use Rattle.setl_live.specs.Nodes.{reads_at, writes_at, access, way, node, handed};
 ghost use Rattle.setl_code.specs.Sound.{is_back};
 
-use crate::Memory;
 use setl_code::{Instr, Slot, Step};
 use setl_live_reads::{Access, Node, Way};
 use setl_tree::{Param, Passing};
-use std::alloc::Global;
+use std::alloc::{AllocError, Global};
 
 fn read_of(slot: Slot) -> Access
     ensures { result ≡ reads_at slot }
@@ -53,7 +52,7 @@ fn way_of(what: &Instr) -> Way
 }
 
 /// The steps of a body.
-pub(crate) fn nodes_of(alloc: Global, steps: &[Step]) -> Result<Vec<Node>, Memory>
+pub(crate) fn nodes_of(alloc: Global, steps: &[Step]) -> Result<Vec<Node>, AllocError>
     ensures { IfOk result (λ nodes. nodes.items ≡ map node steps.now) }
 {
     let mut nodes = Vec::with_capacity(alloc, steps.len())?;
@@ -77,7 +76,7 @@ fn is_handed_back(passing: Passing) -> bool
 }
 
 /// Which parameters are handed back.
-pub(crate) fn handed_back(alloc: Global, params: &[Param]) -> Result<Vec<bool>, Memory>
+pub(crate) fn handed_back(alloc: Global, params: &[Param]) -> Result<Vec<bool>, AllocError>
     ensures { IfOk result (λ back. back.items ≡ handed params.now) }
 {
     let mut back = Vec::with_capacity(alloc, params.len())?;

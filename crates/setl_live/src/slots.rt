@@ -7,15 +7,14 @@ ghost use Rattle.setl_names.specs.Names.{has};
 ghost use Rattle.setl_program.specs.code.Plain.{plain_declared, plain_variable};
 ghost use Rattle.setl_live.specs.Slots.{OnlyMain, TellsDeclared, with_main, with_all_main, is_named, table_by};
 
-use crate::Memory;
 use setl_code::{Body, Code, OwnName};
 use setl_names::Names;
 use setl_program::{Declared, Variable};
 use setl_tree::Param;
-use std::alloc::Global;
+use std::alloc::{AllocError, Global};
 
 /// Puts the name of a variable of the main program's own to some names.
-fn put_main(names: &mut Names, variable: &Variable) -> Result<(), Memory>
+fn put_main(names: &mut Names, variable: &Variable) -> Result<(), AllocError>
     ensures { OnOk result (names.new ≡ with_main names.old (plain_variable variable.now)) }
 {
     let Variable::Own(0, name) = variable else {
@@ -26,7 +25,7 @@ fn put_main(names: &mut Names, variable: &Variable) -> Result<(), Memory>
 }
 
 /// The names of the declared variables that are the main program's own.
-fn main_names(alloc: Global, declared: &[Declared]) -> Result<Names, Memory>
+fn main_names(alloc: Global, declared: &[Declared]) -> Result<Names, AllocError>
     ensures { IfOk result (λ names. names ≡ with_all_main [] (declared_in (map plain_declared declared.now))) }
 {
     let mut names = Names::new(alloc);
@@ -47,7 +46,7 @@ fn is_named(names: &Names, name: &OwnName) -> bool
 }
 
 /// Puts to a table, for each parameter, whether its name is among some names.
-fn put_parameters(table: &mut Vec<bool>, names: &Names, params: &[Param]) -> Result<(), Memory>
+fn put_parameters(table: &mut Vec<bool>, names: &Names, params: &[Param]) -> Result<(), AllocError>
     ensures { OnOk result (table.new.items ≡ table.old.items ++ map (λ p. has names.now p.name) params.now) }
 {
     for param in params {
@@ -57,7 +56,7 @@ fn put_parameters(table: &mut Vec<bool>, names: &Names, params: &[Param]) -> Res
 }
 
 /// Puts to a table, for each own name, whether it is among some names.
-fn put_names(table: &mut Vec<bool>, names: &Names, own: &[OwnName]) -> Result<(), Memory>
+fn put_names(table: &mut Vec<bool>, names: &Names, own: &[OwnName]) -> Result<(), AllocError>
     ensures { OnOk result (table.new.items ≡ table.old.items ++ map (is_named names.now) own.now) }
 {
     for name in own {
@@ -67,7 +66,7 @@ fn put_names(table: &mut Vec<bool>, names: &Names, own: &[OwnName]) -> Result<()
 }
 
 /// For each own slot of the main program's body, whether its name is among some names.
-fn table_by(alloc: Global, names: &Names, body: &Body) -> Result<Vec<bool>, Memory>
+fn table_by(alloc: Global, names: &Names, body: &Body) -> Result<Vec<bool>, AllocError>
     ensures { IfOk result (λ table. table.items ≡ table_by names.now body.now.parameters body.now.names) }
 {
     let mut table = Vec::new(alloc);
@@ -83,7 +82,7 @@ pub(crate) fn declared_slots(
     alloc: Global,
     code: &Code,
     declared: &[Declared],
-) -> Result<Vec<bool>, Memory>
+) -> Result<Vec<bool>, AllocError>
     requires { OnlyMain (declared_in (map plain_declared declared.now)) }
     ensures { IfOk result (λ table. TellsDeclared (declared_in (map plain_declared declared.now)) (slice_get code.now.bodies 0) table.items) }
 {
@@ -98,7 +97,7 @@ pub(crate) fn declared_slots(
 /// variables that are the main program's own.
 ///
 /// The error is want of memory.
-pub fn declared_among(alloc: Global, names: &Names, body: &Body) -> Result<Vec<bool>, Memory>
+pub fn declared_among(alloc: Global, names: &Names, body: &Body) -> Result<Vec<bool>, AllocError>
     ensures { (declared : List run.Variable) → OnlyMain declared → names.now ≡ with_all_main [] declared → IfOk result (λ table. TellsDeclared declared (Some body.now) table.items) }
 {
     table_by(alloc, names, body)

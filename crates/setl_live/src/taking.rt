@@ -5,12 +5,11 @@ ghost use Rattle.setl_model_runs.specs.Variable.{Variable};
 ghost use Rattle.setl_code.specs.MayRun.{StepsFit};
 ghost use Rattle.setl_live.specs.Takes.{TellsTakes, is_right, AreRight, WrongTake};
 
-use crate::Memory;
 use crate::marking::{are_few, is_true, refused_of};
 use crate::nodes::{handed_back, nodes_of};
 use setl_code::{Body, Instr, Slot, Step};
 use setl_live_reads::last_reads;
-use std::alloc::Global as Allocator;
+use std::alloc::{AllocError, Global as Allocator};
 
 /// Whether an instruction takes a slot only where that isn't refused and isn't read later.
 fn is_right(what: &Instr, last: bool, refused: &[bool]) -> bool
@@ -46,12 +45,12 @@ pub fn takes_are_last(
     n: usize,
     body: &Body,
     table: &[bool],
-) -> Result<bool, Memory>
+) -> Result<bool, AllocError>
     requires fits { (g : ℕ) × StepsFit g (length body.now.parameters + length body.now.names) body.now.steps }
     ensures { (declared : List Variable) (vars : List (List ℕ)) → IfOk result (λ so. TellsTakes so declared vars n body.now table.now) }
 {
     if !are_few(body.steps.len(), body.parameters.len(), body.names.len()) {
-        return Err(Memory);
+        return Err(AllocError);
     }
     let nodes = nodes_of(alloc, body.steps.as_slice())?;
     let back = handed_back(alloc, body.parameters.as_slice())?;

@@ -4,10 +4,9 @@ ghost use Rattle.std.specs.Prelude.{◌≡◌, ◌+◌, ◌-◌, ◌<◌, ◌≤
 ghost use Rattle.setl_live_reads.specs.Paths.{target};
 ghost use Rattle.setl_live_reads.specs.Blocks.{IsPlain, IsCut, Jumped, Entered, block_at, in_blocks, IsLast, AreBlocks};
 
-use crate::Memory;
 use crate::node::{Access, Node, Way};
 use crate::ranges::target_of;
-use std::alloc::Global;
+use std::alloc::{AllocError, Global};
 
 /// The blocks of a body.
 #[derive(Drop)]
@@ -61,7 +60,7 @@ fn note_jump(jumped: &mut Vec<bool>, way: Way)
 }
 
 /// Which steps are jumped to.
-fn jumped_steps(alloc: Global, nodes: &[Node]) -> Result<Vec<bool>, Memory>
+fn jumped_steps(alloc: Global, nodes: &[Node]) -> Result<Vec<bool>, AllocError>
     ensures sizes { IfOk result (λ jumped. length jumped.items ≡ length nodes.now) }
     ensures jumped { IfOk result (λ jumped. Jumped nodes.now jumped.items (length nodes.now)) }
 {
@@ -92,7 +91,7 @@ fn place(
     blocks: &mut Vec<u32>,
     at: u32,
     is_first: bool,
-) -> Result<(), Memory>
+) -> Result<(), AllocError>
     requires few { length firsts.old.items ≤ at }
     requires some { is_first ≡ false → 0 < length firsts.old.items }
     ensures begun { OnOk result (is_first ≡ true → firsts.new.items ≡ firsts.old.items ++ at ∷ []) }
@@ -107,7 +106,7 @@ fn place(
 }
 
 /// The blocks of the steps, by those that are jumped to: the first step of each block, and the block of each step.
-fn cut(alloc: Global, nodes: &[Node], jumped: &[bool]) -> Result<(Vec<u32>, Vec<u32>), Memory>
+fn cut(alloc: Global, nodes: &[Node], jumped: &[bool]) -> Result<(Vec<u32>, Vec<u32>), AllocError>
     requires few { length nodes.now < 2 ^ 32 }
     requires sizes { length jumped.now ≡ length nodes.now }
     ensures cut { IfOk result (λ r. IsCut nodes.now r.0.items r.1.items (length nodes.now)) }
@@ -165,7 +164,7 @@ fn last_steps(
     nodes: &[Node],
     firsts: &[u32],
     blocks: &[u32],
-) -> Result<Vec<Node>, Memory>
+) -> Result<Vec<Node>, AllocError>
     requires few { length nodes.now < 2 ^ 32 }
     requires cut { IsCut nodes.now firsts.now blocks.now (length nodes.now) }
     ensures sizes { IfOk result (λ lasts. length lasts.items ≡ length firsts.now) }
@@ -179,7 +178,7 @@ fn last_steps(
 }
 
 /// Cuts a body into blocks.
-pub(crate) fn into_blocks(alloc: Global, nodes: &[Node]) -> Result<Blocks, Memory>
+pub(crate) fn into_blocks(alloc: Global, nodes: &[Node]) -> Result<Blocks, AllocError>
     requires few { length nodes.now < 2 ^ 32 }
     ensures { IfOk result (λ b. AreBlocks nodes.now b.firsts.items b.blocks.items b.lasts.items) }
 {

@@ -4,10 +4,9 @@ ghost use Rattle.std.specs.Prelude.{◌≡◌, ◌+◌, ◌/◌, ◌<◌, ◌≤
 ghost use Rattle.setl_live_reads.specs.Paths.{named};
 ghost use Rattle.setl_live_reads.specs.Chains.{AreChains};
 
-use crate::Memory;
 use crate::node::Node;
 use crate::ranges::named_of;
-use std::alloc::Global;
+use std::alloc::{AllocError, Global};
 
 /// The steps that name a slot, from the latest one back. A number is that of the step behind, or 0 for none.
 #[derive(Drop)]
@@ -39,7 +38,7 @@ fn note_step(chains: &mut Chains, node: Node, at: usize)
 }
 
 /// The chains of the steps that name a slot of one of the first rows, so many.
-pub(crate) fn row_chains(alloc: Global, nodes: &[Node], rows: usize) -> Result<Chains, Memory>
+pub(crate) fn row_chains(alloc: Global, nodes: &[Node], rows: usize) -> Result<Chains, AllocError>
     requires { length nodes.now < 2 ^ 32 }
     ensures sizes { IfOk result (λ r. (length r.latest.items ≡ rows) × (length r.earlier.items ≡ length nodes.now)) }
     ensures chains { IfOk result (λ r. AreChains nodes.now rows (length nodes.now) r.latest.items r.earlier.items) }

@@ -21,10 +21,9 @@ use crate::chains::row_chains;
 use crate::ranges::{sources, spans};
 use crate::row::mark_rows;
 pub use node::{Access, Node, Way};
-use std::alloc::Global;
+use std::alloc::{AllocError, Global};
 
 /// Want of memory.
-pub use std::alloc::AllocError as Memory;
 
 /// For each step that reads a slot, whether no path from the next step reaches a read of that slot before a write of it.
 /// `back` tells the slots that are handed back, and there are so many slots.
@@ -35,7 +34,7 @@ pub fn last_reads(
     nodes: &[Node],
     back: &[bool],
     slots: u32,
-) -> Result<Vec<bool>, Memory>
+) -> Result<Vec<bool>, AllocError>
     requires few { length nodes.now < 2 ^ 32 }
     requires slots { (at x : ℕ) (node : _) → slice_get nodes.now at ≡ Some node → node.access ≡ Read x → x < slots }
     ensures sizes { IfOk result (λ marks. length marks.items ≡ length nodes.now) }

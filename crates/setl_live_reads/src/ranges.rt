@@ -4,9 +4,8 @@ ghost use Rattle.std.specs.Prelude.{◌≡◌, ◌+◌, ◌/◌, ◌<◌, ◌≤
 ghost use Rattle.setl_live_reads.specs.Paths.{target, named};
 ghost use Rattle.setl_live_reads.specs.Ranges.{InRange, Sourced, Spanned};
 
-use crate::Memory;
 use crate::node::{Access, Node, Way};
-use std::alloc::Global;
+use std::alloc::{AllocError, Global};
 
 /// A range of blocks for each of some places, from the first to the last one.
 #[derive(Drop)]
@@ -17,7 +16,7 @@ pub(crate) struct Ranges {
 
 impl Ranges {
     /// Empty ranges.
-    fn new(alloc: Global, count: usize) -> Result<Ranges, Memory>
+    fn new(alloc: Global, count: usize) -> Result<Ranges, AllocError>
         ensures { IfOk result (λ r. (length r.first.items ≡ count) × (length r.last.items ≡ count)) }
     {
         let first = vec![in alloc; u32::MAX; count]?;
@@ -97,7 +96,7 @@ fn note_slot(ranges: &mut Ranges, node: Node, at: u32)
 }
 
 /// Of each block, the range of the blocks that jump to it. The blocks stand as their last steps.
-pub(crate) fn sources(alloc: Global, lasts: &[Node]) -> Result<Ranges, Memory>
+pub(crate) fn sources(alloc: Global, lasts: &[Node]) -> Result<Ranges, AllocError>
     requires { length lasts.now < 2 ^ 32 }
     ensures sizes { IfOk result (λ r. (length r.first.items ≡ length lasts.now) × (length r.last.items ≡ length lasts.now)) }
     ensures sourced { IfOk result (λ r. Sourced lasts.now r.first.items r.last.items (length lasts.now)) }
@@ -115,7 +114,7 @@ pub(crate) fn spans(
     nodes: &[Node],
     blocks: &[u32],
     rows: usize,
-) -> Result<Ranges, Memory>
+) -> Result<Ranges, AllocError>
     requires { length blocks.now ≡ length nodes.now }
     ensures sizes { IfOk result (λ r. (length r.first.items ≡ rows) × (length r.last.items ≡ rows)) }
     ensures spanned { IfOk result (λ r. Spanned nodes.now blocks.now rows r.first.items r.last.items (length nodes.now)) }

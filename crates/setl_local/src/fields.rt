@@ -5,9 +5,8 @@ ghost use Rattle.std.specs.FinMap as map;
 ghost use Rattle.setl_local.specs.FieldState.{no_fields};
 ghost use Rattle.setl_local.specs.Entries.{content_of, field_at, GainsRoom, Alters, turned_on, emptied, filled};
 
-use crate::Memory;
 use indexmap::IndexMap;
-use std::alloc::Global;
+use std::alloc::{AllocError, Global};
 use std::marker::Model;
 
 /// What a place with room has.
@@ -28,7 +27,7 @@ pub struct Fields<T> {
 }
 
 /// Puts in an empty field, unless the table has one at the place.
-fn make_room<T: Drop>(table: &mut Table<T>, place: (u32, u64)) -> Result<(), Memory>
+fn make_room<T: Drop>(table: &mut Table<T>, place: (u32, u64)) -> Result<(), AllocError>
     ensures ok { OnOk result (GainsRoom place table.old.entries table.new.entries) }
     ensures err { OnErr result (table.new.entries ≡ table.old.entries) }
 {
@@ -85,7 +84,7 @@ impl<T> Model for Fields<T> {
 
 impl<T> Fields<T> {
     /// No place has room, a bit that is on or a content. An error is want of memory.
-    pub fn new(alloc: Global) -> Result<Fields<T>, Memory>
+    pub fn new(alloc: Global) -> Result<Fields<T>, AllocError>
         ensures { IfOk result (λ fields. fields ≡ no_fields) }
     {
         Ok(Fields {
@@ -123,7 +122,7 @@ impl<T> Fields<T> {
 
 impl<T: Drop> Fields<T> {
     /// Gives the place room. An error is want of memory, and no place has then gained any.
-    pub fn room(&mut self, obj: u32, block: u64) -> Result<(), Memory>
+    pub fn room(&mut self, obj: u32, block: u64) -> Result<(), AllocError>
         ensures ok { OnOk result (self.new.room ≡ set.insert self.old.room (obj, block)) }
         ensures there { OnOk result (IsTrue (set.contains self.new.room (obj, block))) }
         ensures err { OnErr result (self.new.room ≡ self.old.room) }

@@ -8,4 +8,3 @@
 mod fields;
 
 pub use fields::Fields;
-pub use std::alloc::AllocError as Memory;

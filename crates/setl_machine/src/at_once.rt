@@ -22,8 +22,8 @@ use setl_machine_variables::{
 };
 use setl_operators::Operator;
 use setl_store::Store;
-use setl_store_environment::Memory;
 use setl_value::Value;
+use std::alloc::AllocError;
 
 /// Does one of the common instructions. Its answer is whether it did so and the run goes on, and else all is as before. The
 /// error is how the run ended, which is never `Paused`.
@@ -96,7 +96,7 @@ fn others_at_once(
 
 /// Whether the run goes on after an instruction; the error is how it ended.
 #[inline(always)]
-fn went_on(done: Result<End, Memory>) -> Result<bool, End>
+fn went_on(done: Result<End, AllocError>) -> Result<bool, End>
     ensures { result ≡ went_on done }
 {
     match done {

@@ -14,9 +14,8 @@ use crate::telling::one;
 use setl_code::Instr;
 use setl_machine_control::{Control, End, back, forget, keep};
 use setl_store::Store;
-use setl_store_environment::Memory;
 use setl_watch::Event;
-use std::alloc::Global;
+use std::alloc::{AllocError, Global};
 
 /// Does `ok`, `fail` or `succeed`. The error is want of memory.
 pub(crate) fn do_backtracking(
@@ -24,7 +23,7 @@ pub(crate) fn do_backtracking(
     line: u32,
     store: &mut Store<'_>,
     control: &mut Control,
-) -> Result<End, Memory>
+) -> Result<End, AllocError>
     requires is { family_of what.now ≡ Family.Backtracking }
     requires few { store.old.core.now.at + 1 < 2 ^ 64 }
     ensures did { IfOk result (λ end. Does store.old control.old line (plain_instr (variables store.old.core) what.now) store.new control.new end) }
@@ -39,7 +38,7 @@ pub(crate) fn do_backtracking(
 }
 
 /// The event of `ok`, `fail` or `succeed`.
-pub(crate) fn backtracking_events(what: &Instr, alloc: Global) -> Result<Vec<Event>, Memory>
+pub(crate) fn backtracking_events(what: &Instr, alloc: Global) -> Result<Vec<Event>, AllocError>
     requires is { family_of what.now ≡ Family.Backtracking }
     ensures { (code : Code) (line : ℕ) (xs : Variables) (k d : CodeCore) → IfOk result (λ es. Tells code line (plain_instr xs what.now) k d es.items) }
 {

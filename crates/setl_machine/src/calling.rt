@@ -20,10 +20,9 @@ use setl_code_events::call_events;
 use setl_machine_control::{Control, End, copied, pop_top};
 use setl_machine_variables::Declarations;
 use setl_store::Store;
-use setl_store_environment::Memory;
 use setl_value::Value;
 use setl_watch::Event;
-use std::alloc::Global;
+use std::alloc::{AllocError, Global};
 
 /// Does a call or a return. The error is want of memory.
 pub(crate) fn do_call(
@@ -32,7 +31,7 @@ pub(crate) fn do_call(
     declarations: &Declarations<'_>,
     store: &mut Store<'_>,
     control: &mut Control,
-) -> Result<End, Memory>
+) -> Result<End, AllocError>
     requires is { family_of what.now ≡ Family.Calls }
     requires few { store.old.core.now.at + 1 < 2 ^ 64 }
     requires serves { Serves declarations.now store.old }
@@ -76,7 +75,7 @@ pub(crate) fn call(
     line: u32,
     store: &mut Store<'_>,
     control: &mut Control,
-) -> Result<End, Memory>
+) -> Result<End, AllocError>
     requires { store.old.core.now.at + 1 < 2 ^ 64 }
     ensures did { (modes : Modes) → AreOfMain modes → IsBare (plain_code store.old.code) → IfOk result (λ end. DoesBy modes store.old control.old line (CallBody body) store.new control.new end) }
     ensures reader { control.new.reader ≡ control.old.reader }
@@ -89,7 +88,7 @@ pub(crate) fn call(
 
 /// Takes the arguments of the body of this number off the operands; None where there is no such body or there are too few.
 #[inline]
-fn arguments(body: u32, store: &mut Store<'_>) -> Result<Option<Vec<Option<Value>>>, Memory>
+fn arguments(body: u32, store: &mut Store<'_>) -> Result<Option<Vec<Option<Value>>>, AllocError>
     ensures taken { IfOk result (λ values. TakesArguments body store.old (option_map (λ all. map part all.items) values) store.new) }
     ensures there { IfOk result (λ values. IfSome values (λ all. body < length store.new.code.bodies)) }
     ensures each { IfOk result (λ values. IfSome values (λ all. IfSome (slice_get store.new.code.bodies body) (λ b. length all.items ≡ length b.parameters))) }
@@ -107,7 +106,7 @@ fn begin(
     values: Vec<Option<Value>>,
     store: &mut Store<'_>,
     control: &mut Control,
-) -> Result<End, Memory>
+) -> Result<End, AllocError>
     requires there { body < length store.old.code.bodies }
     requires each { IfSome (slice_get store.old.code.bodies body) (λ b. length values.items ≡ length b.parameters) }
     requires few { store.old.core.now.at + 1 < 2 ^ 64 }
@@ -143,7 +142,7 @@ fn body_of(code: &Code, body: u32) -> Option<&Body>
 
 /// Ends the activation, and pushes the result and what the `wr` and `rw` parameters hold.
 #[inline(never)]
-pub(crate) fn leave_body(store: &mut Store<'_>) -> Result<End, Memory>
+pub(crate) fn leave_body(store: &mut Store<'_>) -> Result<End, AllocError>
     ensures { (line : ℕ) → IfOk result (λ end. Works store.old line ReturnTop store.new end) }
 {
     let Some(value) = pop_top(store)? else {
@@ -180,7 +179,7 @@ fn call_telling(
 }
 
 /// Equals of some values.
-fn copies(alloc: Global, values: &[Option<Value>]) -> Result<Vec<Option<Value>>, Memory>
+fn copies(alloc: Global, values: &[Option<Value>]) -> Result<Vec<Option<Value>>, AllocError>
     ensures { IfOk result (λ all. all.items ≡ values.now) }
 {
     let mut all = Vec::with_capacity(alloc, values.len())?;

@@ -13,11 +13,15 @@ use setl_code::Instr;
 use setl_machine_control::{End, StopKind, copied, go_on, pop_top};
 use setl_program::Connective;
 use setl_store::{Store, Top};
-use setl_store_environment::Memory;
 use setl_value::Value;
+use std::alloc::AllocError;
 
 /// Does an instruction of conditions, jumps, the top operand, or the end of the run. The error is want of memory.
-pub(crate) fn do_condition(what: &Instr, line: u32, store: &mut Store<'_>) -> Result<End, Memory>
+pub(crate) fn do_condition(
+    what: &Instr,
+    line: u32,
+    store: &mut Store<'_>,
+) -> Result<End, AllocError>
     requires is { family_of what.now ≡ Family.Conditions }
     requires few { store.old.core.now.at + 1 < 2 ^ 64 }
     ensures { IfOk result (λ end. Works store.old line (plain_instr (variables store.old.core) what.now) store.new end) }
@@ -41,7 +45,7 @@ pub(crate) fn decide(
     to: u32,
     line: u32,
     store: &mut Store<'_>,
-) -> Result<End, Memory>
+) -> Result<End, AllocError>
     requires { store.old.core.now.at + 1 < 2 ^ 64 }
     ensures { IfOk result (λ end. Works store.old line (Decides what to) store.new end) }
 {
@@ -73,7 +77,7 @@ fn answer(what: Connective, left: bool) -> Option<bool>
 
 /// Stops the run unless a truth value is on top.
 #[inline(always)]
-pub(crate) fn test(line: u32, store: &mut Store<'_>) -> Result<End, Memory>
+pub(crate) fn test(line: u32, store: &mut Store<'_>) -> Result<End, AllocError>
     requires { store.old.core.now.at + 1 < 2 ^ 64 }
     ensures did { IfOk result (λ end. Works store.old line TestBool store.new end) }
     ensures sure { IsOk result }
@@ -89,7 +93,7 @@ pub(crate) fn test(line: u32, store: &mut Store<'_>) -> Result<End, Memory>
 
 /// Pops a truth value, and goes to the target if it is false.
 #[inline(always)]
-pub(crate) fn unless(to: u32, line: u32, store: &mut Store<'_>) -> Result<End, Memory>
+pub(crate) fn unless(to: u32, line: u32, store: &mut Store<'_>) -> Result<End, AllocError>
     requires { store.old.core.now.at + 1 < 2 ^ 64 }
     ensures { IfOk result (λ end. Works store.old line (Unless to) store.new end) }
 {
@@ -108,7 +112,7 @@ pub(crate) fn unless(to: u32, line: u32, store: &mut Store<'_>) -> Result<End, M
 
 /// Goes to the target.
 #[inline(always)]
-pub(crate) fn jump(to: u32, store: &mut Store<'_>) -> Result<End, Memory>
+pub(crate) fn jump(to: u32, store: &mut Store<'_>) -> Result<End, AllocError>
     ensures did { (line : ℕ) → IfOk result (λ end. Works store.old line (Jump to) store.new end) }
     ensures sure { IsOk result }
 {
@@ -118,7 +122,7 @@ pub(crate) fn jump(to: u32, store: &mut Store<'_>) -> Result<End, Memory>
 
 /// Pops the top.
 #[inline(never)]
-pub(crate) fn discard(store: &mut Store<'_>) -> Result<End, Memory>
+pub(crate) fn discard(store: &mut Store<'_>) -> Result<End, AllocError>
     requires { store.old.core.now.at + 1 < 2 ^ 64 }
     ensures { (line : ℕ) → IfOk result (λ end. Works store.old line DropTop store.new end) }
 {
@@ -131,7 +135,7 @@ pub(crate) fn discard(store: &mut Store<'_>) -> Result<End, Memory>
 
 /// Pushes the top again.
 #[inline(never)]
-pub(crate) fn duplicate(store: &mut Store<'_>) -> Result<End, Memory>
+pub(crate) fn duplicate(store: &mut Store<'_>) -> Result<End, AllocError>
     requires { store.old.core.now.at + 1 < 2 ^ 64 }
     ensures { (line : ℕ) → IfOk result (λ end. Works store.old line DupTop store.new end) }
 {
@@ -145,7 +149,7 @@ pub(crate) fn duplicate(store: &mut Store<'_>) -> Result<End, Memory>
 }
 
 /// The same, whatever the top is.
-fn duplicate_any(store: &mut Store<'_>) -> Result<End, Memory>
+fn duplicate_any(store: &mut Store<'_>) -> Result<End, AllocError>
     requires { store.old.core.now.at + 1 < 2 ^ 64 }
     ensures { (line : ℕ) → IfOk result (λ end. Works store.old line DupTop store.new end) }
 {

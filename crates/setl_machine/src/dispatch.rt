@@ -24,7 +24,7 @@ use setl_code::Instr;
 use setl_machine_control::{Control, End};
 use setl_machine_variables::Declarations;
 use setl_store::Store;
-use setl_store_environment::Memory;
+use std::alloc::AllocError;
 
 /// Does an instruction that neither reads nor writes, and says how the run stands then.
 #[inline(never)]
@@ -56,7 +56,7 @@ fn do_quiet(
     declarations: &Declarations<'_>,
     store: &mut Store<'_>,
     control: &mut Control,
-) -> Result<End, Memory>
+) -> Result<End, AllocError>
     requires quiet { ¬ (family_of what.now ≡ Family.Outside) }
     requires few { store.old.core.now.at + 1 < 2 ^ 64 }
     requires fits { InstrFits (length store.old.core.globals) (length store.old.core.now.own) what.now }

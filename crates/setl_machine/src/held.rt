@@ -14,13 +14,13 @@ use setl_rep_bases::Bases;
 use setl_rep_forms::Held;
 use setl_rep_kernels::{is_in, size};
 use setl_store::Store;
-use setl_store_environment::Memory;
 use setl_store_operands::AsHeld;
 use setl_value::Value;
+use std::alloc::AllocError;
 
 /// What `in` and `notin` give of the two on top, where the upper one is a set in a form; None where it is something else. The error
 /// is want of memory.
-pub(crate) fn tested_in_form(what: Operator, store: &Store<'_>) -> Result<Option<bool>, Memory>
+pub(crate) fn tested_in_form(what: Operator, store: &Store<'_>) -> Result<Option<bool>, AllocError>
     ensures { IfOk result (λ o. IfSome o (TellsOfTwo what store.now.core.now.operands)) }
 {
     let Some((lower, upper, bases)) = store.two_held() else {
@@ -40,7 +40,7 @@ pub(crate) fn tested_in_form(what: Operator, store: &Store<'_>) -> Result<Option
 }
 
 // Whether a value is a member of a set in a form; None where there is no kernel for it. The error is want of memory.
-fn is_member(value: AsHeld<'_>, set: &Held, bases: &Bases) -> Result<Option<bool>, Memory>
+fn is_member(value: AsHeld<'_>, set: &Held, bases: &Bases) -> Result<Option<bool>, AllocError>
     requires value { IsOverAs bases.now value }
     requires set { IsHeldOver bases.now set.now }
     ensures { IfOk result (λ o. IfSome o (λ t. (left : ℕ) → op_of In (value_as bases.now value.entry ∷ held_value bases.now set.now ∷ []) left ≡ truth t)) }

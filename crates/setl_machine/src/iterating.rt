@@ -15,10 +15,9 @@ use setl_code::{Begin, Instr};
 use setl_machine_control::{Control, End, StopKind, end_by, go_on, pop_top};
 use setl_program::Collection;
 use setl_store::{Ahead, Store};
-use setl_store_environment::Memory;
 use setl_store_iterator::begin;
 use setl_value::{TupleBody, Value};
-use std::alloc::Global;
+use std::alloc::{AllocError, Global};
 
 /// Does an instruction of iterators, collections, components or rounds. The error is want of memory.
 pub(crate) fn do_iteration(
@@ -26,7 +25,7 @@ pub(crate) fn do_iteration(
     line: u32,
     store: &mut Store<'_>,
     control: &mut Control,
-) -> Result<End, Memory>
+) -> Result<End, AllocError>
     requires is { family_of what.now ≡ Family.Iteration }
     requires few { store.old.core.now.at + 1 < 2 ^ 64 }
     ensures did { IfOk result (λ end. Does store.old control.old line (plain_instr (variables store.old.core) what.now) store.new control.new end) }
@@ -46,7 +45,7 @@ pub(crate) fn do_iteration(
 
 /// Pops a tuple and pushes its first components, so many, the first one on top.
 #[inline(never)]
-fn take_apart(count: u32, line: u32, store: &mut Store<'_>) -> Result<End, Memory>
+fn take_apart(count: u32, line: u32, store: &mut Store<'_>) -> Result<End, AllocError>
     requires { store.old.core.now.at + 1 < 2 ^ 64 }
     ensures { IfOk result (λ end. Works store.old line (PartsOf count) store.new end) }
 {
@@ -63,7 +62,7 @@ fn take_apart(count: u32, line: u32, store: &mut Store<'_>) -> Result<End, Memor
 }
 
 /// Pushes the first components of a tuple, so many, the first one on top.
-fn push_parts(tuple: &TupleBody, count: usize, store: &mut Store<'_>) -> Result<(), Memory>
+fn push_parts(tuple: &TupleBody, count: usize, store: &mut Store<'_>) -> Result<(), AllocError>
     ensures { OnOk result (store.new ≡ record store.old { core = over (first_parts count tuple.now store.old.core.now.operands) store.old.core }) }
 {
     for at in (0..count).rev() {
@@ -73,7 +72,7 @@ fn push_parts(tuple: &TupleBody, count: usize, store: &mut Store<'_>) -> Result<
 }
 
 /// An equal of a component of a tuple, where `om` stands behind the last one.
-fn component(tuple: &TupleBody, at: usize) -> Result<Option<Value>, Memory>
+fn component(tuple: &TupleBody, at: usize) -> Result<Option<Value>, AllocError>
     ensures { IfOk result (λ v. part v ≡ component_of tuple.now at) }
 {
     match tuple.at(at) {
@@ -90,7 +89,7 @@ pub(crate) fn begin_over(
     count: u32,
     line: u32,
     store: &mut Store<'_>,
-) -> Result<End, Memory>
+) -> Result<End, AllocError>
     requires { store.old.core.now.at + 1 < 2 ^ 64 }
     ensures { IfOk result (λ end. Works store.old line (BeginOver (plain_begin how) count) store.new end) }
 {
@@ -109,7 +108,7 @@ pub(crate) fn begin_over(
 
 /// At the end of the iterator on top drops it and goes to the target; else takes one turn and pushes the next item.
 #[inline(never)]
-pub(crate) fn next(to: u32, store: &mut Store<'_>, control: &mut Control) -> Result<End, Memory>
+pub(crate) fn next(to: u32, store: &mut Store<'_>, control: &mut Control) -> Result<End, AllocError>
     requires { store.old.core.now.at + 1 < 2 ^ 64 }
     ensures did { (line : ℕ) → IfOk result (λ end. Does store.old control.old line (NextOr to) store.new control.new end) }
     ensures reader { control.new.reader ≡ control.old.reader }
@@ -137,7 +136,7 @@ pub(crate) fn next(to: u32, store: &mut Store<'_>, control: &mut Control) -> Res
 
 /// Pushes an empty collection.
 #[inline(never)]
-pub(crate) fn collect(what: Collection, store: &mut Store<'_>) -> Result<End, Memory>
+pub(crate) fn collect(what: Collection, store: &mut Store<'_>) -> Result<End, AllocError>
     requires { store.old.core.now.at + 1 < 2 ^ 64 }
     ensures { (line : ℕ) → IfOk result (λ end. Works store.old line (BeginOf what) store.new end) }
 {
@@ -148,7 +147,7 @@ pub(crate) fn collect(what: Collection, store: &mut Store<'_>) -> Result<End, Me
 
 /// Pops a value, and adds it to the collection below so many iterators.
 #[inline(never)]
-pub(crate) fn add(count: u32, line: u32, store: &mut Store<'_>) -> Result<End, Memory>
+pub(crate) fn add(count: u32, line: u32, store: &mut Store<'_>) -> Result<End, AllocError>
     requires { store.old.core.now.at + 1 < 2 ^ 64 }
     ensures { IfOk result (λ end. Works store.old line (AddBelow count) store.new end) }
 {
@@ -167,7 +166,7 @@ pub(crate) fn add(count: u32, line: u32, store: &mut Store<'_>) -> Result<End, M
 
 /// Drops so many iterators.
 #[inline(never)]
-pub(crate) fn leave(count: u32, store: &mut Store<'_>) -> Result<End, Memory>
+pub(crate) fn leave(count: u32, store: &mut Store<'_>) -> Result<End, AllocError>
     requires { store.old.core.now.at + 1 < 2 ^ 64 }
     ensures { (line : ℕ) → IfOk result (λ end. Works store.old line (LeaveAll count) store.new end) }
 {
@@ -180,7 +179,7 @@ pub(crate) fn leave(count: u32, store: &mut Store<'_>) -> Result<End, Memory>
 
 /// Takes one turn.
 #[inline(always)]
-pub(crate) fn round(store: &mut Store<'_>, control: &mut Control) -> Result<End, Memory>
+pub(crate) fn round(store: &mut Store<'_>, control: &mut Control) -> Result<End, AllocError>
     requires { store.old.core.now.at + 1 < 2 ^ 64 }
     ensures did { (line : ℕ) → IfOk result (λ end. Does store.old control.old line PayRound store.new control.new end) }
     ensures reader { control.new.reader ≡ control.old.reader }

@@ -19,8 +19,8 @@ use setl_machine_control::{Control, End, end_by, go_on};
 use setl_machine_variables::freely_of_top;
 use setl_operators::{Operator, op, op_one, op_two};
 use setl_store::Store;
-use setl_store_environment::Memory;
 use setl_value::Value;
+use std::alloc::AllocError;
 
 /// Does an operator. The error is want of memory.
 pub(crate) fn do_operator(
@@ -28,7 +28,7 @@ pub(crate) fn do_operator(
     line: u32,
     store: &mut Store<'_>,
     control: &mut Control,
-) -> Result<End, Memory>
+) -> Result<End, AllocError>
     requires is { family_of what.now ≡ Family.Operators }
     requires few { store.old.core.now.at + 1 < 2 ^ 64 }
     requires fits { InstrFits (length store.old.core.globals) (length store.old.core.now.own) what.now }
@@ -50,7 +50,7 @@ fn operate(
     line: u32,
     store: &mut Store<'_>,
     control: &mut Control,
-) -> Result<End, Memory>
+) -> Result<End, AllocError>
     requires few { store.old.core.now.at + 1 < 2 ^ 64 }
     requires fits { TakesOperands what count }
     ensures did { IfOk result (λ end. Does store.old control.old line (Operate what count) store.new control.new end) }
@@ -64,7 +64,7 @@ fn operate(
 
 /// Puts a value in the place of the two on top.
 #[inline(always)]
-pub(crate) fn put_for_two(value: Option<Value>, store: &mut Store<'_>) -> Result<End, Memory>
+pub(crate) fn put_for_two(value: Option<Value>, store: &mut Store<'_>) -> Result<End, AllocError>
     requires few { store.old.core.now.at + 1 < 2 ^ 64 }
     requires two { AreTwo store.old.core.now.operands }
     ensures { IfOk result (λ end. PutsForTwo store.old (part value) store.new end) }
@@ -77,7 +77,7 @@ pub(crate) fn put_for_two(value: Option<Value>, store: &mut Store<'_>) -> Result
 
 /// Puts a value in the place of the one on top.
 #[inline(always)]
-pub(crate) fn put_for_one(value: Option<Value>, store: &mut Store<'_>) -> Result<End, Memory>
+pub(crate) fn put_for_one(value: Option<Value>, store: &mut Store<'_>) -> Result<End, AllocError>
     requires few { store.old.core.now.at + 1 < 2 ^ 64 }
     requires one { IsPlainTop store.old.core.now.operands }
     ensures { IfOk result (λ end. PutsForOne store.old (part value) store.new end) }
@@ -95,7 +95,7 @@ pub(crate) fn operate_any(
     line: u32,
     store: &mut Store<'_>,
     control: &mut Control,
-) -> Result<End, Memory>
+) -> Result<End, AllocError>
     requires few { store.old.core.now.at + 1 < 2 ^ 64 }
     requires fits { TakesOperands what count }
     ensures did { IfOk result (λ end. Does store.old control.old line (Operate what count) store.new control.new end) }
@@ -123,7 +123,7 @@ fn operate_on_one(
     line: u32,
     store: &mut Store<'_>,
     control: &mut Control,
-) -> Result<End, Memory>
+) -> Result<End, AllocError>
     requires few { store.old.core.now.at + 1 < 2 ^ 64 }
     requires fits { TakesOperands what count }
     requires one { operand_count what ≡ Some 1 }
@@ -149,7 +149,7 @@ fn operate_on_two(
     line: u32,
     store: &mut Store<'_>,
     control: &mut Control,
-) -> Result<End, Memory>
+) -> Result<End, AllocError>
     requires few { store.old.core.now.at + 1 < 2 ^ 64 }
     requires fits { TakesOperands what count }
     requires two { operand_count what ≡ Some 2 }
@@ -176,7 +176,7 @@ fn operate_on_one_held(
     line: u32,
     store: &mut Store<'_>,
     control: &mut Control,
-) -> Result<End, Memory>
+) -> Result<End, AllocError>
     requires few { store.old.core.now.at + 1 < 2 ^ 64 }
     requires fits { TakesOperands what count }
     requires one { operand_count what ≡ Some 1 }
@@ -200,7 +200,7 @@ fn operate_on_two_held(
     line: u32,
     store: &mut Store<'_>,
     control: &mut Control,
-) -> Result<End, Memory>
+) -> Result<End, AllocError>
     requires few { store.old.core.now.at + 1 < 2 ^ 64 }
     requires fits { TakesOperands what count }
     requires two { operand_count what ≡ Some 2 }
@@ -223,7 +223,7 @@ fn operate_listed(
     line: u32,
     store: &mut Store<'_>,
     control: &mut Control,
-) -> Result<End, Memory>
+) -> Result<End, AllocError>
     requires few { store.old.core.now.at + 1 < 2 ^ 64 }
     requires fits { TakesOperands what count }
     ensures did { IfOk result (λ end. Does store.old control.old line (Operate what count) store.new control.new end) }
@@ -245,7 +245,7 @@ fn operate_listed(
 
 /// Pushes the next atom, for one turn.
 #[inline(never)]
-fn push_atom(store: &mut Store<'_>, control: &mut Control) -> Result<End, Memory>
+fn push_atom(store: &mut Store<'_>, control: &mut Control) -> Result<End, AllocError>
     requires { store.old.core.now.at + 1 < 2 ^ 64 }
     ensures did { (line : ℕ) → IfOk result (λ end. Does store.old control.old line PushAtom store.new control.new end) }
     ensures reader { control.new.reader ≡ control.old.reader }
@@ -260,7 +260,7 @@ fn push_atom(store: &mut Store<'_>, control: &mut Control) -> Result<End, Memory
 
 /// Pushes whether a read met the end of the input.
 #[inline(never)]
-fn push_eof(store: &mut Store<'_>, control: &Control) -> Result<End, Memory>
+fn push_eof(store: &mut Store<'_>, control: &Control) -> Result<End, AllocError>
     requires { store.old.core.now.at + 1 < 2 ^ 64 }
     ensures { (line : ℕ) → IfOk result (λ end. Does store.old control.now line PushEof store.new control.now end) }
 {

@@ -23,11 +23,10 @@ use crate::telling::one;
 use setl_io::{Sink, Source, WriteFault, write_all};
 use setl_machine_control::{Control, End, StopKind, go_on};
 use setl_store::Store;
-use setl_store_environment::Memory;
 use setl_text::{ReadFault, line};
 use setl_value::Value;
 use setl_watch::Event;
-use std::alloc::Global;
+use std::alloc::{AllocError, Global};
 
 /// Writes the line of so many operands as one piece, and takes them off.
 pub(crate) fn print<O: Sink>(
@@ -102,7 +101,7 @@ pub(crate) fn read<I: Source>(
 }
 
 /// Pushes what was read, and goes on.
-fn push_read(value: Option<Value>, store: &mut Store<'_>) -> Result<(), Memory>
+fn push_read(value: Option<Value>, store: &mut Store<'_>) -> Result<(), AllocError>
     requires { store.old.core.now.at + 1 < 2 ^ 64 }
     ensures { OnOk result (store.new ≡ record store.old { core = at_place (suc store.old.core.now.at) (over (Holds (part value) ∷ store.old.core.now.operands) store.old.core) }) }
 {
@@ -145,7 +144,7 @@ pub(crate) fn print_telling<O: Sink>(
 }
 
 /// The event of a line, which has it without byte 10.
-fn print_events(alloc: Global, line: &[u8]) -> Result<Vec<Event>, Memory>
+fn print_events(alloc: Global, line: &[u8]) -> Result<Vec<Event>, AllocError>
     ensures { IfOk result (λ es. map notice_of es.items ≡ PrintNotice (without_last line.now) ∷ []) }
 {
     let bytes = without_last(alloc, line)?;
@@ -154,7 +153,7 @@ fn print_events(alloc: Global, line: &[u8]) -> Result<Vec<Event>, Memory>
 
 /// All bytes but the last one.
 #[tactic(auto, using(crate::proofs::Told::without))]
-fn without_last(alloc: Global, bytes: &[u8]) -> Result<Vec<u8>, Memory>
+fn without_last(alloc: Global, bytes: &[u8]) -> Result<Vec<u8>, AllocError>
     ensures { IfOk result (λ front. front.items ≡ without_last bytes.now) }
 {
     match bytes.split_last() {

@@ -29,9 +29,8 @@ use setl_io::{Sink, Source};
 use setl_machine_control::{Control, End};
 use setl_machine_variables::Declarations;
 use setl_store::Store;
-use setl_store_environment::Memory;
 use setl_watch::Event;
-use std::alloc::Global;
+use std::alloc::{AllocError, Global};
 
 /// Does the next instruction, as `run` does, and gives the events that it tells. The error is how the run ends there, which
 /// is never `Paused`.
@@ -119,7 +118,12 @@ pub(crate) fn alone_telling(
 }
 
 /// The events of an instruction of a body, by its number, that rest neither on operands nor on slots.
-fn alone_events(what: &Instr, body: u32, code: &Code, alloc: Global) -> Result<Vec<Event>, Memory>
+fn alone_events(
+    what: &Instr,
+    body: u32,
+    code: &Code,
+    alloc: Global,
+) -> Result<Vec<Event>, AllocError>
     requires { IsToldAlone what.now }
     ensures { (line : ℕ) (xs : Variables) (k d : CodeCore) → k.now.body ≡ body → IfOk result (λ es. Tells (plain_code code.now) line (plain_instr xs what.now) k d es.items) }
 {
@@ -131,7 +135,7 @@ fn alone_events(what: &Instr, body: u32, code: &Code, alloc: Global) -> Result<V
 }
 
 /// One event.
-pub(crate) fn one(alloc: Global, event: Event) -> Result<Vec<Event>, Memory>
+pub(crate) fn one(alloc: Global, event: Event) -> Result<Vec<Event>, AllocError>
     ensures { IfOk result (λ es. es.items ≡ event ∷ []) }
 {
     let mut events = Vec::new(alloc);

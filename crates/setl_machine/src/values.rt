@@ -11,12 +11,15 @@ use setl_code::Instr;
 use setl_machine_control::End;
 use setl_machine_variables::{push, push_integer, push_text};
 use setl_store::Store;
-use setl_store_environment::Memory;
 use setl_value::Value;
-use std::alloc::Global;
+use std::alloc::{AllocError, Global};
 
 /// Pushes a constant. The error is want of memory.
-pub(crate) fn do_value(what: &Instr, store: &mut Store<'_>, alloc: Global) -> Result<End, Memory>
+pub(crate) fn do_value(
+    what: &Instr,
+    store: &mut Store<'_>,
+    alloc: Global,
+) -> Result<End, AllocError>
     requires is { family_of what.now ≡ Family.Values }
     requires few { store.old.core.now.at + 1 < 2 ^ 64 }
     ensures { (line : ℕ) → IfOk result (λ end. Works store.old line (plain_instr (variables store.old.core) what.now) store.new end) }

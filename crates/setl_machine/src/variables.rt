@@ -23,10 +23,9 @@ use setl_code_events::store_events;
 use setl_machine_control::{Control, End};
 use setl_machine_variables::{Declarations, alter, load, store_in, take, update};
 use setl_store::{Content, Store};
-use setl_store_environment::Memory;
 use setl_value::Value;
 use setl_watch::Event;
-use std::alloc::Global;
+use std::alloc::{AllocError, Global};
 
 /// Does an instruction on a variable. The error is want of memory.
 pub(crate) fn do_variable(
@@ -35,7 +34,7 @@ pub(crate) fn do_variable(
     declarations: &Declarations<'_>,
     store: &mut Store<'_>,
     control: &mut Control,
-) -> Result<End, Memory>
+) -> Result<End, AllocError>
     requires is { family_of what.now ≡ Family.Variables }
     requires few { store.old.core.now.at + 1 < 2 ^ 64 }
     requires fits { InstrFits (length store.old.core.globals) (length store.old.core.now.own) what.now }
@@ -149,7 +148,7 @@ fn stored_events(
     line: u32,
     store: &Store<'_>,
     alloc: Global,
-) -> Result<Vec<Event>, Memory>
+) -> Result<Vec<Event>, AllocError>
     requires { HasSlot (length (variables_in (plain_code store.now.code) store.now.core.now.body).global) (length (variables_in (plain_code store.now.code) store.now.core.now.body).own) slot }
     ensures { IfOk result (λ es. map notice_of es.items ≡ map noticed (store_told line (plain_slot (variables_in (plain_code store.now.code) store.now.core.now.body) slot) store.now.core)) }
 {
@@ -159,7 +158,7 @@ fn stored_events(
 }
 
 /// An equal of what a variable holds, where it isn't taken.
-fn held_copy(slot: Slot, store: &Store<'_>) -> Result<Option<Value>, Memory>
+fn held_copy(slot: Slot, store: &Store<'_>) -> Result<Option<Value>, AllocError>
     requires { HasSlot (length store.now.core.globals) (length store.now.core.now.own) slot }
     ensures { IfOk result (λ value. part value ≡ value_held (held (plain_slot (variables store.now.core) slot) store.now.core)) }
 {

@@ -7,11 +7,11 @@ ghost use Rattle.setl_machine_control.specs.Working.{Works, Does};
 use crate::control::Control;
 use crate::end::{End, StopKind};
 use setl_store::Store;
-use setl_store_environment::Memory;
+use std::alloc::AllocError;
 
 /// `ok`: keeps all that `fail` brings back. The error is want of memory.
 #[inline(never)]
-pub fn keep(store: &mut Store<'_>) -> Result<End, Memory>
+pub fn keep(store: &mut Store<'_>) -> Result<End, AllocError>
     requires { store.old.core.now.at + 1 < 2 ^ 64 }
     ensures { (line : ℕ) → IfOk result (λ end. Works store.old line KeepAll store.new end) }
 {
@@ -21,7 +21,7 @@ pub fn keep(store: &mut Store<'_>) -> Result<End, Memory>
 
 /// `fail`: takes one turn and brings back what was kept last; where nothing is, the run stops at this line. No error comes.
 #[inline(never)]
-pub fn back(line: u32, store: &mut Store<'_>, control: &mut Control) -> Result<End, Memory>
+pub fn back(line: u32, store: &mut Store<'_>, control: &mut Control) -> Result<End, AllocError>
     ensures did { IfOk result (λ end. Does store.old control.old line GoBack store.new control.new end) }
     ensures reader { control.new.reader ≡ control.old.reader }
     ensures sure { IsOk result }
@@ -42,7 +42,7 @@ pub fn back(line: u32, store: &mut Store<'_>, control: &mut Control) -> Result<E
 /// `succeed`: forgets what was kept last and keeps all changes; where nothing is kept, the run stops at this line. No error
 /// comes.
 #[inline(never)]
-pub fn forget(line: u32, store: &mut Store<'_>) -> Result<End, Memory>
+pub fn forget(line: u32, store: &mut Store<'_>) -> Result<End, AllocError>
     requires { store.old.core.now.at + 1 < 2 ^ 64 }
     ensures did { IfOk result (λ end. Works store.old line ForgetKept store.new end) }
     ensures sure { IsOk result }

@@ -6,10 +6,9 @@ ghost use Rattle.setl_machine_control.specs.Control.{world_of, IsRest, TakesTurn
 ghost use Rattle.setl_machine_control.specs.Reading.{TakesIn};
 
 use setl_io::Source;
-use setl_store_environment::Memory;
 use setl_text::{Got, ReadFault, Reader};
 use setl_value::Value;
-use std::alloc::Global;
+use std::alloc::{AllocError, Global};
 use std::marker::Model;
 
 /// The turns left, the next atom, and where the input is read.
@@ -38,7 +37,7 @@ impl Control {
     /// A control with so many turns, which read nothing yet and made no atom.
     ///
     /// The error is want of memory.
-    pub fn new(alloc: Global, turns: u64) -> Result<Control, Memory>
+    pub fn new(alloc: Global, turns: u64) -> Result<Control, AllocError>
         requires { turns < 2 ^ 63 }
         ensures { IfOk result (λ c. c ≡ record { turns = turns; atom = 1; eof = false; reader = record { kept = []; ended = false; fault = None } }) }
     {

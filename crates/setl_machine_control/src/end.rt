@@ -1,6 +1,6 @@
 //! How a call of the machine ends.
 
-use setl_store_environment::Memory;
+use std::alloc::AllocError;
 
 /// Why a run stops: an operator's fault, an input without a denotation (`Form`), `fail` or `succeed` with nothing kept, or
 /// a value that doesn't fit the declaration of its variable.
@@ -38,13 +38,13 @@ pub enum End {
     Stuck,
 }
 
-impl From<Memory> for End {
+impl From<AllocError> for End {
     ghost use Rattle.std.specs.Prelude.{◌≡◌};
     ghost use Rattle.setl_machine_control.specs.declared.end.End.TheVariants.{NoMemory};
 
     ghost from_gives = { λ _ e. e ≡ NoMemory };
 
-    fn from(_e: Memory) -> End {
+    fn from(_e: AllocError) -> End {
         End::NoMemory
     }
 }

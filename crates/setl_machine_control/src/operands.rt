@@ -7,7 +7,6 @@ ghost use Rattle.setl_machine_control.specs.Working.{PopsTop, EndsBy};
 use crate::end::{End, StopKind};
 use setl_operators_table::OpFault;
 use setl_store::{Store, Top};
-use setl_store_environment::Memory;
 use setl_value::Value;
 use std::alloc::AllocError;
 
@@ -23,7 +22,7 @@ pub fn go_on(store: &mut Store<'_>)
 /// Takes the top off, if it serves as a value; None where it doesn't, and then all is as before. The error is want of
 /// memory.
 #[inline(always)]
-pub fn pop_top(store: &mut Store<'_>) -> Result<Option<Option<Value>>, Memory>
+pub fn pop_top(store: &mut Store<'_>) -> Result<Option<Option<Value>>, AllocError>
     ensures { IfOk result (λ value. PopsTop store.old value store.new) }
 {
     match store.top() {
@@ -34,7 +33,7 @@ pub fn pop_top(store: &mut Store<'_>) -> Result<Option<Option<Value>>, Memory>
 
 /// An equal of a value, which shares its body. The error is want of memory.
 #[inline]
-pub fn copied(value: &Option<Value>) -> Result<Option<Value>, Memory>
+pub fn copied(value: &Option<Value>) -> Result<Option<Value>, AllocError>
     ensures { IfOk result (λ other. other ≡ value.now) }
 {
     match value {
@@ -44,7 +43,7 @@ pub fn copied(value: &Option<Value>) -> Result<Option<Value>, Memory>
 }
 
 /// How a fault of an operator at a line ends the run. The error is want of memory.
-pub fn end_by(fault: OpFault, line: u32) -> Result<End, Memory>
+pub fn end_by(fault: OpFault, line: u32) -> Result<End, AllocError>
     ensures { IfOk result (λ end. EndsBy fault line end) }
 {
     match fault {

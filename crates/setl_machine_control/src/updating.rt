@@ -16,8 +16,8 @@ use crate::operands::{end_by, go_on};
 use setl_code::Slot;
 use setl_operators_table::OpFault;
 use setl_store::Store;
-use setl_store_environment::Memory;
 use setl_value::Value;
+use std::alloc::AllocError;
 
 /// The variable of an update, with its declaration where it has one.
 #[derive(Clone, Copy)]
@@ -36,7 +36,7 @@ pub fn end_update(
     line: u32,
     store: &mut Store<'_>,
     control: &mut Control,
-) -> Result<End, Memory>
+) -> Result<End, AllocError>
     requires few { store.old.core.now.at + 1 < 2 ^ 64 }
     requires there { HasSlot (length store.old.core.globals) (length store.old.core.now.own) target.slot }
     ensures did { (modes : Modes) → IsDeclared modes (plain_slot (variables store.old.core) target.entry.slot) target.entry.declared → IfOk result (λ end. EndsUpdate modes left line (plain_slot (variables store.old.core) target.entry.slot) (part whole) (option_map part kept) store.old control.old store.new control.new end) }
@@ -70,7 +70,7 @@ fn store_whole(
     target: Target<'_>,
     line: u32,
     store: &mut Store<'_>,
-) -> Result<End, Memory>
+) -> Result<End, AllocError>
     requires { HasSlot (length store.old.core.globals) (length store.old.core.now.own) target.slot }
     ensures { (modes : Modes) → IsDeclared modes (plain_slot (variables store.old.core) target.entry.slot) target.entry.declared → IfOk result (λ end. StoresWhole modes line (plain_slot (variables store.old.core) target.entry.slot) (part whole) (option_map part kept) store.old store.new end) }
 {

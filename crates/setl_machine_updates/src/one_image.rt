@@ -14,8 +14,8 @@ ghost use Rattle.setl_model.specs.Places.{combined};
 ghost use Rattle.setl_machine_updates.specs.Updates.{Updates};
 
 use setl_set::laws::{operations_have_their_members, rising_lists_agree, tests_are_exact};
-use setl_value::{Memory, SetBody, TupleBody, Value};
-use std::alloc::Global;
+use setl_value::{SetBody, TupleBody, Value};
+use std::alloc::{AllocError, Global};
 
 /// `whole{x} less:= y` where the map stands, with the turns that are left: the pair of `x` and `y` goes. None for a whole that
 /// is no map, and for values that are too deep to be parts of a pair in a map; then nothing changed. Where memory is
@@ -26,7 +26,7 @@ pub(crate) fn remove_image(
     x: &Value,
     y: &Value,
     turns: u64,
-) -> Result<Option<u64>, Memory>
+) -> Result<Option<u64>, AllocError>
     ensures updated { IfOk result (λ o. IfSome o (λ left. Updates (combined (Brace (Some (datum x.now)) ∷ []) (part whole.old) (λ p now. op_of Less (p ∷ Some (datum y.now) ∷ []) now) turns) turns (part whole.new) (Ok left))) }
     ensures unchanged { IfOk result (λ o. IfNone o (whole.new ≡ whole.old)) }
     ensures refused { OnErr result (whole.new ≡ whole.old) }
@@ -44,7 +44,7 @@ fn remove_in(
     x: &Value,
     y: &Value,
     turns: u64,
-) -> Result<Option<u64>, Memory>
+) -> Result<Option<u64>, AllocError>
     ensures updated { IfOk result (λ o. IfSome o (λ left. Updates (combined (Brace (Some (datum x.now)) ∷ []) (Some (datum whole.old)) (λ p now. op_of Less (p ∷ Some (datum y.now) ∷ []) now) turns) turns (Some (datum whole.new)) (Ok left))) }
     ensures unchanged { IfOk result (λ o. IfNone o (whole.new ≡ whole.old)) }
     ensures refused { OnErr result (whole.new ≡ whole.old) }
@@ -62,7 +62,7 @@ fn remove_pair(
     x: &Value,
     y: &Value,
     turns: u64,
-) -> Result<Option<u64>, Memory>
+) -> Result<Option<u64>, AllocError>
     ensures updated { IfOk result (λ o. IfSome o (λ left. Updates (combined (Brace (Some (datum x.now)) ∷ []) (Some (set_of (Members f.old))) (λ p now. op_of Less (p ∷ Some (datum y.now) ∷ []) now) turns) turns (Some (set_of (Members f.new))) (Ok left))) }
     ensures unchanged { IfOk result (λ o. IfNone o (f.new ≡ f.old)) }
     ensures refused { OnErr result (f.new ≡ f.old) }
@@ -99,7 +99,7 @@ fn learn_depth(f: &SetBody)
 }
 
 // The pair of two values.
-fn pair_of(alloc: Global, x: &Value, y: &Value) -> Result<Value, Memory>
+fn pair_of(alloc: Global, x: &Value, y: &Value) -> Result<Value, AllocError>
     requires { (depth (datum x.now) < 499) × (depth (datum y.now) < 499) }
     ensures { IfOk result (λ p. datum p ≡ pair (datum x.now) (datum y.now)) }
 {

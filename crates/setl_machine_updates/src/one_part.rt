@@ -16,8 +16,8 @@ use crate::updates::{add_value, append_value};
 use setl_map::change_image;
 use setl_operators_table::laws::operands_grow;
 use setl_operators_table::{OpFault, Operator};
-use setl_value::{Memory, SetBody, TupleBody, Value};
-use std::alloc::Global;
+use setl_value::{SetBody, TupleBody, Value};
+use std::alloc::{AllocError, Global};
 
 /// `whole(x) with:= value` and `whole(x) +:= value` where the part stands, and `whole(x) less:= value` where it is a set of
 /// members that are neither sets nor tuples, and what that answers. None for another operator or a whole that is no map or
@@ -29,7 +29,7 @@ pub(crate) fn combine_there(
     x: &Value,
     value: &Value,
     turns: u64,
-) -> Result<Option<Result<u64, OpFault>>, Memory>
+) -> Result<Option<Result<u64, OpFault>>, AllocError>
     ensures updated { IfOk result (λ o. IfSome o (λ r. Updates (combined (Round (Some (datum x.now)) ∷ []) (part whole.old) (λ p now. op_of what (p ∷ Some (datum value.now) ∷ []) now) turns) turns (part whole.new) r)) }
     ensures fault { IfOk result (λ o. IfSome o (λ r. OnErr r (whole.new ≡ whole.old))) }
     ensures unchanged { IfOk result (λ o. IfNone o (whole.new ≡ whole.old)) }
@@ -48,7 +48,7 @@ fn combine_in(
     x: &Value,
     value: &Value,
     turns: u64,
-) -> Result<Option<Result<u64, OpFault>>, Memory>
+) -> Result<Option<Result<u64, OpFault>>, AllocError>
     ensures updated { IfOk result (λ o. IfSome o (λ r. Updates (combined (Round (Some (datum x.now)) ∷ []) (Some (datum whole.old)) (λ p now. op_of what (p ∷ Some (datum value.now) ∷ []) now) turns) turns (Some (datum whole.new)) r)) }
     ensures fault { IfOk result (λ o. IfSome o (λ r. OnErr r (whole.new ≡ whole.old))) }
     ensures unchanged { IfOk result (λ o. IfNone o (whole.new ≡ whole.old)) }
@@ -72,7 +72,7 @@ fn add_to_part(
     x: &Value,
     value: &Value,
     turns: u64,
-) -> Result<Option<Result<u64, OpFault>>, Memory>
+) -> Result<Option<Result<u64, OpFault>>, AllocError>
     requires shallow { depth (datum value.now) < 498 }
     ensures updated { IfOk result (λ o. IfSome o (λ r. Updates (combined (Round (Some (datum x.now)) ∷ []) (Some (datum whole.old)) (λ p now. op_of With (p ∷ Some (datum value.now) ∷ []) now) turns) turns (Some (datum whole.new)) r)) }
     ensures fault { IfOk result (λ o. IfSome o (λ r. OnErr r (whole.new ≡ whole.old))) }
@@ -90,7 +90,7 @@ fn append_to_part(
     x: &Value,
     value: &Value,
     turns: u64,
-) -> Result<Option<Result<u64, OpFault>>, Memory>
+) -> Result<Option<Result<u64, OpFault>>, AllocError>
     requires shallow { depth (datum value.now) < 498 }
     ensures updated { IfOk result (λ o. IfSome o (λ r. Updates (combined (Round (Some (datum x.now)) ∷ []) (Some (datum whole.old)) (λ p now. op_of Add (p ∷ Some (datum value.now) ∷ []) now) turns) turns (Some (datum whole.new)) r)) }
     ensures fault { IfOk result (λ o. IfSome o (λ r. OnErr r (whole.new ≡ whole.old))) }
@@ -107,7 +107,7 @@ fn remove_from_part(
     x: &Value,
     value: &Value,
     turns: u64,
-) -> Result<Option<Result<u64, OpFault>>, Memory>
+) -> Result<Option<Result<u64, OpFault>>, AllocError>
     ensures updated { IfOk result (λ o. IfSome o (λ r. Updates (combined (Round (Some (datum x.now)) ∷ []) (Some (datum whole.old)) (λ p now. op_of Less (p ∷ Some (datum value.now) ∷ []) now) turns) turns (Some (datum whole.new)) r)) }
     ensures fault { IfOk result (λ o. IfSome o (λ r. OnErr r (whole.new ≡ whole.old))) }
     ensures unchanged { IfOk result (λ o. IfNone o (whole.new ≡ whole.old)) }
@@ -125,7 +125,7 @@ fn remove_from_part(
 
 // `part less value`, in place, where the part is a set of members that are neither sets nor tuples. Its answer is whether this was
 // so, and else nothing changed.
-fn remove_if_flat(part: &mut Value, value: &Value) -> Result<bool, Memory>
+fn remove_if_flat(part: &mut Value, value: &Value) -> Result<bool, AllocError>
     ensures removed { IfOk result (λ done. done ≡ true → IsLessened (datum value.now) (datum part.old) (datum part.new)) }
     ensures deeper { depth (datum part.old) ≤ depth (datum part.new) }
     ensures bound { depth (datum part.new) ≤ max (depth (datum part.old)) 1 }
@@ -139,7 +139,7 @@ fn remove_if_flat(part: &mut Value, value: &Value) -> Result<bool, Memory>
 }
 
 // The same of a set.
-fn remove_from_flat(s: &mut SetBody, value: &Value) -> Result<bool, Memory>
+fn remove_from_flat(s: &mut SetBody, value: &Value) -> Result<bool, AllocError>
     ensures removed { IfOk result (λ done. done ≡ true → IsLessened (datum value.now) (set_of (Members s.old)) (set_of (Members s.new))) }
     ensures deeper { depth (set_of (Members s.old)) ≤ depth (set_of (Members s.new)) }
     ensures bound { depth (set_of (Members s.new)) ≤ max (depth (set_of (Members s.old))) 1 }
@@ -160,7 +160,7 @@ pub(crate) fn change_part<R, F: FnOnce(&mut Value) -> R>(
     whole: &mut Value,
     x: &Value,
     change: F,
-) -> Result<Option<R>, Memory>
+) -> Result<Option<R>, AllocError>
     requires callable { F.IsAlwaysCallable change }
     requires grows { (d : Datum) → depth d < 499 → Grows F.FnOnce change d 499 }
     ensures changed { IfOk result (λ o. IfSome o (λ r. ChangesPart F.FnOnce change (datum x.now) (datum whole.old) r (datum whole.new) (whole.new ≡ whole.old))) }
@@ -179,7 +179,7 @@ fn change_in_map<R, F: FnOnce(&mut Value) -> R>(
     f: &mut SetBody,
     x: &Value,
     change: F,
-) -> Result<Option<R>, Memory>
+) -> Result<Option<R>, AllocError>
     requires callable { F.IsAlwaysCallable change }
     requires grows { (d : Datum) → depth d < 499 → Grows F.FnOnce change d 499 }
     ensures changed { IfOk result (λ o. IfSome o (λ r. ChangesPart F.FnOnce change (datum x.now) (set_of (Members f.old)) r (set_of (Members f.new)) (f.new ≡ f.old))) }
@@ -200,7 +200,7 @@ pub(crate) fn change_in_tuple<R, F: FnOnce(&mut Value) -> R>(
     t: &mut TupleBody,
     x: &Value,
     change: F,
-) -> Result<Option<R>, Memory>
+) -> Result<Option<R>, AllocError>
     requires callable { F.IsAlwaysCallable change }
     requires grows { (d : Datum) → depth d < 499 → Grows F.FnOnce change d 499 }
     ensures changed { IfOk result (λ o. IfSome o (λ r. ChangesPart F.FnOnce change (datum x.now) (tuple_of t.old) r (tuple_of t.new) (t.new ≡ t.old))) }
@@ -237,7 +237,7 @@ fn change_component<R, F: FnOnce(&mut Value) -> R>(
     place: i128,
     i: usize,
     change: F,
-) -> Result<Option<R>, Memory>
+) -> Result<Option<R>, AllocError>
     requires callable { F.IsAlwaysCallable change }
     requires grows { (d : Datum) → depth d < 499 → Grows F.FnOnce change d 499 }
     requires there { IsShallowAt t.old place i }

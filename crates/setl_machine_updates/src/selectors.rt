@@ -12,8 +12,8 @@ ghost use Rattle.setl_machine_updates.specs.Updates.{Updates};
 use setl_operators::op_two;
 use setl_operators_collections::{put_images_in_place, put_in_place};
 use setl_operators_table::{OpFault, Operator};
-use setl_value::{Memory, Value};
-use std::alloc::Global;
+use setl_value::Value;
+use std::alloc::{AllocError, Global};
 
 /// A selector with its operand, where None is `om`.
 #[derive(Drop)]
@@ -96,7 +96,7 @@ fn lend(a: &Option<Value>) -> Option<&Value>
 }
 
 // The same value, which shares its body.
-fn copied(a: &Option<Value>) -> Result<Option<Value>, Memory>
+fn copied(a: &Option<Value>) -> Result<Option<Value>, AllocError>
     ensures { IfOk result (λ copy. part copy ≡ part a.now) }
 {
     match a {

@@ -18,8 +18,8 @@ use crate::updates::put_at;
 use setl_operators_collections::{take_first, take_last, take_least};
 use setl_operators_table::{OpFault, Taken};
 use setl_program::Taking;
-use setl_value::{Memory, Value};
-use std::alloc::Global;
+use setl_value::Value;
+use std::alloc::{AllocError, Global};
 
 /// What was taken out of a set or a tuple.
 #[derive(Drop)]
@@ -78,7 +78,7 @@ fn take_there(
     whole: &mut Option<Value>,
     at: &[Selector],
     turns: u64,
-) -> Result<Option<TakenOut>, Memory>
+) -> Result<Option<TakenOut>, AllocError>
     ensures taken { IfOk result (λ o. IfSome o (λ t. Takes end (map selected at.now) (part whole.old) turns (part whole.new) (Ok t))) }
     ensures unchanged { IfOk result (λ o. IfNone o (whole.new ≡ whole.old)) }
     ensures refused { OnErr result (whole.new ≡ whole.old) }
@@ -95,7 +95,7 @@ fn take_at_one(
     whole: &mut Option<Value>,
     at: &Selector,
     turns: u64,
-) -> Result<Option<TakenOut>, Memory>
+) -> Result<Option<TakenOut>, AllocError>
     ensures taken { IfOk result (λ o. IfSome o (λ t. Takes end (selected at.now ∷ []) (part whole.old) turns (part whole.new) (Ok t))) }
     ensures unchanged { IfOk result (λ o. IfNone o (whole.new ≡ whole.old)) }
     ensures refused { OnErr result (whole.new ≡ whole.old) }
@@ -115,7 +115,7 @@ fn take_in_part(
     whole: &mut Value,
     x: &Value,
     turns: u64,
-) -> Result<Option<TakenOut>, Memory>
+) -> Result<Option<TakenOut>, AllocError>
     ensures taken { IfOk result (λ o. IfSome o (λ t. Takes end (Round (Some (datum x.now)) ∷ []) (Some (datum whole.old)) turns (Some (datum whole.new)) (Ok t))) }
     ensures unchanged { IfOk result (λ o. IfNone o (whole.new ≡ whole.old)) }
     ensures refused { OnErr result (whole.new ≡ whole.old) }

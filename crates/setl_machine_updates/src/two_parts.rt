@@ -17,8 +17,8 @@ use crate::selectors::Selector;
 use crate::updates::{add_value, append_value};
 use setl_operators_table::laws::operands_grow;
 use setl_operators_table::{OpFault, Operator};
-use setl_value::{Memory, TupleBody, Value};
-use std::alloc::Global;
+use setl_value::{TupleBody, Value};
+use std::alloc::{AllocError, Global};
 
 /// `whole(x)(y) := value` where the tuple `whole(x)` stands, which charges nothing. Its answer is whether this was done: not where
 /// these are no two such selectors, `whole(x)` is no tuple with a component at the place `y`, or that is deeper than the value or
@@ -27,7 +27,7 @@ pub(crate) fn put_there(
     whole: &mut Option<Value>,
     at: &[Selector],
     new: &Option<Value>,
-) -> Result<bool, Memory>
+) -> Result<bool, AllocError>
     ensures put { IfOk result (λ done. done ≡ true → (turns : ℕ) → Updates (with_part_at_all (map selected at.now) (part whole.old) (part new.now) turns) turns (part whole.new) (Ok turns)) }
     ensures unchanged { IfOk result (λ done. done ≡ false → whole.new ≡ whole.old) }
     ensures refused { OnErr result (whole.new ≡ whole.old) }
@@ -44,7 +44,7 @@ fn put_at_both(
     first: &Selector,
     second: &Selector,
     new: &Option<Value>,
-) -> Result<bool, Memory>
+) -> Result<bool, AllocError>
     ensures put { IfOk result (λ done. done ≡ true → (turns : ℕ) → Updates (combined (selected first.now ∷ []) (part whole.old) (λ p now. with_part_at (selected second.now) p (part new.now) now) turns) turns (part whole.new) (Ok turns)) }
     ensures unchanged { IfOk result (λ done. done ≡ false → whole.new ≡ whole.old) }
     ensures refused { OnErr result (whole.new ≡ whole.old) }
@@ -64,7 +64,7 @@ fn put_at_two(
     first: &Selector,
     second: &Selector,
     new: &Value,
-) -> Result<bool, Memory>
+) -> Result<bool, AllocError>
     ensures put { IfOk result (λ done. done ≡ true → (turns : ℕ) → Updates (combined (selected first.now ∷ []) (Some (datum whole.old)) (λ p now. with_part_at (selected second.now) p (Some (datum new.now)) now) turns) turns (Some (datum whole.new)) (Ok turns)) }
     ensures unchanged { IfOk result (λ done. done ≡ false → whole.new ≡ whole.old) }
     ensures refused { OnErr result (whole.new ≡ whole.old) }
@@ -88,7 +88,7 @@ pub(crate) fn combine_inside(
     at: &[Selector],
     new: &Option<Value>,
     turns: u64,
-) -> Result<Option<Result<u64, OpFault>>, Memory>
+) -> Result<Option<Result<u64, OpFault>>, AllocError>
     ensures updated { IfOk result (λ o. IfSome o (λ r. Updates (combined (map selected at.now) (part whole.old) (λ p now. op_of what (p ∷ part new.now ∷ []) now) turns) turns (part whole.new) r)) }
     ensures fault { IfOk result (λ o. IfSome o (λ r. OnErr r (whole.new ≡ whole.old))) }
     ensures unchanged { IfOk result (λ o. IfNone o (whole.new ≡ whole.old)) }
@@ -109,7 +109,7 @@ fn combine_at_both(
     second: &Selector,
     new: &Option<Value>,
     turns: u64,
-) -> Result<Option<Result<u64, OpFault>>, Memory>
+) -> Result<Option<Result<u64, OpFault>>, AllocError>
     ensures updated { IfOk result (λ o. IfSome o (λ r. Updates (combined (selected first.now ∷ selected second.now ∷ []) (part whole.old) (λ p now. op_of what (p ∷ part new.now ∷ []) now) turns) turns (part whole.new) r)) }
     ensures fault { IfOk result (λ o. IfSome o (λ r. OnErr r (whole.new ≡ whole.old))) }
     ensures unchanged { IfOk result (λ o. IfNone o (whole.new ≡ whole.old)) }
@@ -133,7 +133,7 @@ fn combine_at_two(
     second: &Selector,
     new: &Value,
     turns: u64,
-) -> Result<Option<Result<u64, OpFault>>, Memory>
+) -> Result<Option<Result<u64, OpFault>>, AllocError>
     ensures updated { IfOk result (λ o. IfSome o (λ r. Updates (combined (selected first.now ∷ selected second.now ∷ []) (Some (datum whole.old)) (λ p now. op_of what (p ∷ Some (datum new.now) ∷ []) now) turns) turns (Some (datum whole.new)) r)) }
     ensures fault { IfOk result (λ o. IfSome o (λ r. OnErr r (whole.new ≡ whole.old))) }
     ensures unchanged { IfOk result (λ o. IfNone o (whole.new ≡ whole.old)) }
@@ -160,7 +160,7 @@ fn combine_in_part(
     y: &Value,
     new: &Value,
     turns: u64,
-) -> Result<Option<Result<u64, OpFault>>, Memory>
+) -> Result<Option<Result<u64, OpFault>>, AllocError>
     requires grows { (what ≡ With) ⊎ (what ≡ Add) }
     ensures updated { IfOk result (λ o. IfSome o (λ r. Updates (combined (Round (Some (datum x.now)) ∷ Round (Some (datum y.now)) ∷ []) (Some (datum whole.old)) (λ p now. op_of what (p ∷ Some (datum new.now) ∷ []) now) turns) turns (Some (datum whole.new)) r)) }
     ensures fault { IfOk result (λ o. IfSome o (λ r. OnErr r (whole.new ≡ whole.old))) }
@@ -188,7 +188,7 @@ fn combine_component(
     y: &Value,
     new: &Value,
     turns: u64,
-) -> Result<Option<Result<u64, OpFault>>, Memory>
+) -> Result<Option<Result<u64, OpFault>>, AllocError>
     requires grows { (what ≡ With) ⊎ (what ≡ Add) }
     requires shallow { depth (datum new.now) < 497 }
     ensures updated { IfOk result (λ o. IfSome o (CombinesAt what (datum y.now) (datum new.now) turns (datum part.old) (datum part.new))) }
@@ -212,7 +212,7 @@ fn combine_in_tuple(
     y: &Value,
     new: &Value,
     turns: u64,
-) -> Result<Option<Result<u64, OpFault>>, Memory>
+) -> Result<Option<Result<u64, OpFault>>, AllocError>
     requires grows { (what ≡ With) ⊎ (what ≡ Add) }
     requires shallow { depth (datum new.now) < 497 }
     ensures updated { IfOk result (λ o. IfSome o (CombinesAt what (datum y.now) (datum new.now) turns (tuple_of t.old) (tuple_of t.new))) }
@@ -262,7 +262,7 @@ pub(crate) fn at_round(at: &Selector) -> Option<&Value>
 }
 
 // The same at these selectors.
-fn put_in_part(whole: &mut Value, x: &Value, y: &Value, new: &Value) -> Result<bool, Memory>
+fn put_in_part(whole: &mut Value, x: &Value, y: &Value, new: &Value) -> Result<bool, AllocError>
     ensures put { IfOk result (λ done. done ≡ true → (turns : ℕ) → Updates (combined (Round (Some (datum x.now)) ∷ []) (Some (datum whole.old)) (λ p now. with_part_at (Round (Some (datum y.now))) p (Some (datum new.now)) now) turns) turns (Some (datum whole.new)) (Ok turns)) }
     ensures unchanged { IfOk result (λ done. done ≡ false → whole.new ≡ whole.old) }
     ensures refused { OnErr result (whole.new ≡ whole.old) }
@@ -277,7 +277,7 @@ fn put_in_part(whole: &mut Value, x: &Value, y: &Value, new: &Value) -> Result<b
 }
 
 // `part(y) := new`, where the part is a tuple with a component there that isn't deeper.
-fn put_component(part: &mut Value, y: &Value, new: &Value) -> Result<bool, Memory>
+fn put_component(part: &mut Value, y: &Value, new: &Value) -> Result<bool, AllocError>
     requires shallow { depth (datum new.now) < 498 }
     ensures put { IfOk result (λ done. done ≡ true → (left : ℕ) → with_part_at (Round (Some (datum y.now))) (Some (datum part.old)) (Some (datum new.now)) left ≡ value (datum part.new)) }
     ensures deeper { depth (datum part.old) ≤ depth (datum part.new) }
@@ -292,7 +292,7 @@ fn put_component(part: &mut Value, y: &Value, new: &Value) -> Result<bool, Memor
 }
 
 // The same in a tuple.
-fn put_in_tuple(t: &mut TupleBody, y: &Value, new: &Value) -> Result<bool, Memory>
+fn put_in_tuple(t: &mut TupleBody, y: &Value, new: &Value) -> Result<bool, AllocError>
     requires shallow { depth (datum new.now) < 498 }
     ensures put { IfOk result (λ done. done ≡ true → (left : ℕ) → with_part_at (Round (Some (datum y.now))) (Some (tuple_of t.old)) (Some (datum new.now)) left ≡ value (tuple_of t.new)) }
     ensures deeper { depth (tuple_of t.old) ≤ depth (tuple_of t.new) }
@@ -307,7 +307,7 @@ fn put_in_tuple(t: &mut TupleBody, y: &Value, new: &Value) -> Result<bool, Memor
 }
 
 // Puts a value in the place of one that isn't deeper. Its answer is whether this was so.
-fn put_if_as_deep(component: &mut Value, new: &Value) -> Result<bool, Memory>
+fn put_if_as_deep(component: &mut Value, new: &Value) -> Result<bool, AllocError>
     ensures put { IfOk result (λ done. done ≡ true → datum component.new ≡ datum new.now) }
     ensures deeper { depth (datum component.old) ≤ depth (datum component.new) }
     ensures bound { depth (datum component.new) ≤ max (depth (datum component.old)) (depth (datum new.now)) }

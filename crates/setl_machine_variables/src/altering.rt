@@ -23,9 +23,8 @@ use setl_code::{Alteration, Bracket, Slot};
 use setl_machine_control::{Control, End, Target, end_update, pop_top};
 use setl_machine_updates::{Operator, Selector, Taking, combine_at, put_at, take_at};
 use setl_store::{Content, Store};
-use setl_store_environment::Memory;
 use setl_value::Value;
-use std::alloc::Global;
+use std::alloc::{AllocError, Global};
 
 /// How an update ended, and whether it stored a new whole: not where it took something out of an empty part.
 #[derive(Clone, Copy)]
@@ -46,7 +45,7 @@ pub fn alter(
     declarations: &Declarations<'_>,
     store: &mut Store<'_>,
     control: &mut Control,
-) -> Result<Updated, Memory>
+) -> Result<Updated, AllocError>
     requires few { store.old.core.now.at + 1 < 2 ^ 64 }
     requires there { HasSlot (length store.old.core.globals) (length store.old.core.now.own) slot }
     requires can { CanAlter what }
@@ -84,7 +83,7 @@ fn put(
     line: u32,
     store: &mut Store<'_>,
     control: &mut Control,
-) -> Result<End, Memory>
+) -> Result<End, AllocError>
     requires few { store.old.core.now.at + 1 < 2 ^ 64 }
     requires there { HasSlot (length store.old.core.globals) (length store.old.core.now.own) target.slot }
     ensures did { (modes : Modes) → IsDeclared modes (plain_slot (variables store.old.core) target.entry.slot) target.entry.declared → Fitting modes store.old.core → IfOk result (λ end. Alters modes store.old control.old line Putting (plain_slot (variables store.old.core) target.entry.slot) (map selected at.now) store.new control.new end) }
@@ -111,7 +110,7 @@ fn combine(
     line: u32,
     store: &mut Store<'_>,
     control: &mut Control,
-) -> Result<End, Memory>
+) -> Result<End, AllocError>
     requires few { store.old.core.now.at + 1 < 2 ^ 64 }
     requires there { HasSlot (length store.old.core.globals) (length store.old.core.now.own) target.slot }
     requires two { operand_count by ≡ Some 2 }
@@ -139,7 +138,7 @@ fn take_out(
     line: u32,
     store: &mut Store<'_>,
     control: &mut Control,
-) -> Result<Updated, Memory>
+) -> Result<Updated, AllocError>
     requires few { store.old.core.now.at + 1 < 2 ^ 64 }
     requires there { HasSlot (length store.old.core.globals) (length store.old.core.now.own) target.slot }
     ensures did { (modes : Modes) → IsDeclared modes (plain_slot (variables store.old.core) target.entry.slot) target.entry.declared → Fitting modes store.old.core → IfOk result (λ updated. Alters modes store.old control.old line (TakingOut end) (plain_slot (variables store.old.core) target.entry.slot) (map selected at.now) store.new control.new updated.end) }
@@ -180,7 +179,7 @@ fn tested_if(stored: bool, kept: Option<Option<Value>>) -> Option<Option<Value>>
 }
 
 /// Takes out of its slot what a variable holds. None comes where that was taken before, and then all is as before.
-fn take_held(slot: Slot, store: &mut Store<'_>) -> Result<Option<Option<Value>>, Memory>
+fn take_held(slot: Slot, store: &mut Store<'_>) -> Result<Option<Option<Value>>, AllocError>
     requires { HasSlot (length store.old.core.globals) (length store.old.core.now.own) slot }
     ensures { IfOk result (λ whole. TakesHeld (plain_slot (variables store.old.core) slot) store.old whole store.new) }
 {
@@ -196,7 +195,7 @@ fn selectors(
     alloc: Global,
     brackets: &[Bracket],
     values: Vec<Option<Value>>,
-) -> Result<Vec<Selector>, Memory>
+) -> Result<Vec<Selector>, AllocError>
     ensures { IfOk result (λ at. map selected at.items ≡ selected_by (map plain_bracket brackets.now) (map part values.items)) }
 {
     let mut at = Vec::with_capacity(alloc, values.len())?;

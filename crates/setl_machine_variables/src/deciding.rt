@@ -18,8 +18,8 @@ use setl_machine_updates::{Operator, Selector};
 use setl_modes::Mode;
 use setl_modes_fit::fits;
 use setl_modes_parts::{combines, images_mode, parts_decide, value_mode};
-use setl_store_environment::Memory;
 use setl_value::Value;
+use std::alloc::AllocError;
 
 /// Whether it is plain to see, of an integer or a truth value as of any other, that a variable takes it: where the variable isn't
 /// declared, or its mode asks for no more than the kind.
@@ -132,7 +132,7 @@ fn mode_at<'m>(mode: &'m Mode, selector: &Selector) -> Option<&'m Mode>
 pub(crate) fn kept_unless(
     sure: bool,
     whole: &Option<Value>,
-) -> Result<Option<Option<Value>>, Memory>
+) -> Result<Option<Option<Value>>, AllocError>
     ensures { IfOk result (λ kept. (modes : Modes) (x : Variable) (new : Option Datum) → (sure ≡ true → tested modes x new ≡ true) → Keeps modes x (part whole.now) new (option_map part kept)) }
 {
     if sure {

@@ -15,7 +15,6 @@ use setl_code::{Code, OwnName, Slot};
 use setl_machine_control::Declaration;
 use setl_program::{Declared, Variable};
 use setl_store::Store;
-use setl_store_environment::Memory;
 use setl_tree::Text;
 use std::alloc::{AllocError, Global};
 use std::marker::Model;
@@ -55,7 +54,7 @@ impl<'p> Declarations<'p> {
         alloc: Global,
         code: &'p Code,
         declared: &'p [Declared],
-    ) -> Result<Declarations<'p>, Memory>
+    ) -> Result<Declarations<'p>, AllocError>
         ensures { IfOk result (λ d. d ≡ record { code = code.now; declared = declared.now }) }
     {
         let mut globals = IndexMap::new(alloc);
@@ -120,7 +119,7 @@ fn by_slots<'p>(
     declared: &'p [Declared],
     globals: &IndexMap<Vec<u8>, u32>,
     own: &IndexMap<Vec<u8>, u32>,
-) -> Result<Declarations<'p>, Memory>
+) -> Result<Declarations<'p>, AllocError>
     requires { Finds 0 (map plain_declared declared.now) globals.now own.now }
     ensures { IfOk result (λ d. d ≡ record { code = code.now; declared = declared.now }) }
 {
@@ -140,7 +139,7 @@ fn put_places(
     declared: &[Declared],
     globals: &mut IndexMap<Vec<u8>, u32>,
     own: &mut IndexMap<Vec<u8>, u32>,
-) -> Result<(), Memory>
+) -> Result<(), AllocError>
     requires { Finds (length declared.now) [] globals.old own.old }
     ensures { OnOk result (Finds 0 (map plain_declared declared.now) globals.new own.new) }
 {
@@ -159,7 +158,7 @@ fn put_place(
     at: usize,
     globals: &mut IndexMap<Vec<u8>, u32>,
     own: &mut IndexMap<Vec<u8>, u32>,
-) -> Result<(), Memory>
+) -> Result<(), AllocError>
     ensures { OnOk result ((modes : Modes) (mode : PlainMode) → Finds (suc at) modes globals.old own.old → Finds at ((plain_variable variable.now, mode) ∷ modes) globals.new own.new) }
 {
     match variable {
@@ -181,7 +180,7 @@ fn put_name(
     name: &Text,
     at: usize,
     table: &mut IndexMap<Vec<u8>, u32>,
-) -> Result<(), Memory>
+) -> Result<(), AllocError>
     ensures { OnOk result (Puts name.now at table.old table.new) }
 {
     let place = narrow(at)?;
@@ -192,7 +191,7 @@ fn put_name(
 
 /// A place as a stop names it. The error is that it is 2^32 or more, where no memory was refused. A declaration takes some
 /// bytes of a source, which has at most 2^24.
-fn narrow(at: usize) -> Result<u32, Memory>
+fn narrow(at: usize) -> Result<u32, AllocError>
     ensures { IfOk result (λ place. place ≡ at) }
 {
     match u32::try_from(at) {
@@ -206,7 +205,7 @@ fn seen_places(
     alloc: Global,
     names: &[Text],
     table: &IndexMap<Vec<u8>, u32>,
-) -> Result<Vec<Option<u32>>, Memory>
+) -> Result<Vec<Option<u32>>, AllocError>
     ensures { IfOk result (λ places. places.items ≡ map (value_at table.now) names.now) }
 {
     names
@@ -220,7 +219,7 @@ fn main_places(
     alloc: Global,
     code: &Code,
     table: &IndexMap<Vec<u8>, u32>,
-) -> Result<Vec<Option<u32>>, Memory>
+) -> Result<Vec<Option<u32>>, AllocError>
     ensures { IfOk result (λ places. places.items ≡ map (name_place (value_at table.now)) (names_by (slice_get code.now.bodies 0))) }
 {
     match code.bodies.as_slice().get(0) {
@@ -234,7 +233,7 @@ fn name_places(
     alloc: Global,
     names: &[OwnName],
     table: &IndexMap<Vec<u8>, u32>,
-) -> Result<Vec<Option<u32>>, Memory>
+) -> Result<Vec<Option<u32>>, AllocError>
     ensures { IfOk result (λ places. places.items ≡ map (name_place (value_at table.now)) names.now) }
 {
     names

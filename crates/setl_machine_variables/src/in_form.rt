@@ -32,8 +32,8 @@ use setl_modes_parts::{combines, parts_decide};
 use setl_operators::Operator;
 use setl_rep_updates::Change;
 use setl_store::{Content, Store};
-use setl_store_environment::Memory;
 use setl_value::Value;
+use std::alloc::AllocError;
 
 /// Stores a value, or `om`, that its declaration takes in a variable's slot: the empty set in its form, where it is declared so. The
 /// error is want of memory, and then all is as before.
@@ -42,7 +42,7 @@ pub(crate) fn put(
     declared: Option<Declaration<'_>>,
     value: Option<Value>,
     store: &mut Store<'_>,
-) -> Result<(), Memory>
+) -> Result<(), AllocError>
     requires there { HasSlot (length store.old.core.globals) (length store.old.core.now.own) slot }
     requires fits { is_taken (mode_by declared) (part value) ≡ true }
     ensures { Becomes result store.old store.new (record store.old { core = write (plain_slot (variables store.old.core) slot) (There (part value)) store.old.core }) }
@@ -93,7 +93,7 @@ fn is_held_so(mode: &Mode) -> bool {
 /// Pushes what a variable holds in a form: in that form where the next instruction has a kernel for it, and else the plain value,
 /// which the variable then holds too. The error is want of memory.
 #[inline(never)]
-pub(crate) fn load_form(slot: Slot, store: &mut Store<'_>) -> Result<End, Memory>
+pub(crate) fn load_form(slot: Slot, store: &mut Store<'_>) -> Result<End, AllocError>
     requires few { store.old.core.now.at + 1 < 2 ^ 64 }
     requires slot { HasSlot (length store.old.core.globals) (length store.old.core.now.own) slot }
     requires there { IsThere (held (plain_slot (variables store.old.core) slot) store.old.core) }
@@ -107,7 +107,7 @@ pub(crate) fn load_form(slot: Slot, store: &mut Store<'_>) -> Result<End, Memory
 }
 
 // Pushes what a variable holds in its form.
-fn load_in_form(slot: Slot, store: &mut Store<'_>) -> Result<End, Memory>
+fn load_in_form(slot: Slot, store: &mut Store<'_>) -> Result<End, AllocError>
     requires few { store.old.core.now.at + 1 < 2 ^ 64 }
     requires slot { HasSlot (length store.old.core.globals) (length store.old.core.now.own) slot }
     requires there { IsThere (held (plain_slot (variables store.old.core) slot) store.old.core) }
@@ -119,7 +119,7 @@ fn load_in_form(slot: Slot, store: &mut Store<'_>) -> Result<End, Memory>
 }
 
 // Pushes what a variable holds as a plain value, which the variable then holds too.
-fn load_plain(slot: Slot, store: &mut Store<'_>) -> Result<End, Memory>
+fn load_plain(slot: Slot, store: &mut Store<'_>) -> Result<End, AllocError>
     requires few { store.old.core.now.at + 1 < 2 ^ 64 }
     requires slot { HasSlot (length store.old.core.globals) (length store.old.core.now.own) slot }
     requires there { IsThere (held (plain_slot (variables store.old.core) slot) store.old.core) }
@@ -160,7 +160,7 @@ pub(crate) fn update_in_form(
     brackets: &[Bracket],
     declarations: &Declarations<'_>,
     store: &mut Store<'_>,
-) -> Result<bool, Memory>
+) -> Result<bool, AllocError>
     requires few { store.old.core.now.at + 1 < 2 ^ 64 }
     requires there { HasSlot (length store.old.core.globals) (length store.old.core.now.own) slot }
     requires serves { Serves declarations.now store.old }

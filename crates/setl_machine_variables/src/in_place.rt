@@ -19,8 +19,8 @@ use crate::integers::freely;
 use setl_code::{Alteration, Bracket, Slot};
 use setl_machine_control::{Control, End, go_on};
 use setl_store::{Content, Store};
-use setl_store_environment::Memory;
 use setl_value::Value;
+use std::alloc::AllocError;
 
 /// Does an update: an integer of a variable that surely takes the new one is combined with an integer at once, and else it is
 /// `alter`.
@@ -34,7 +34,7 @@ pub fn update(
     declarations: &Declarations<'_>,
     store: &mut Store<'_>,
     control: &mut Control,
-) -> Result<End, Memory>
+) -> Result<End, AllocError>
     requires few { store.old.core.now.at + 1 < 2 ^ 64 }
     requires there { HasSlot (length store.old.core.globals) (length store.old.core.now.own) slot }
     requires can { CanAlter what }
@@ -58,7 +58,7 @@ fn update_any(
     declarations: &Declarations<'_>,
     store: &mut Store<'_>,
     control: &mut Control,
-) -> Result<End, Memory>
+) -> Result<End, AllocError>
     requires few { store.old.core.now.at + 1 < 2 ^ 64 }
     requires there { HasSlot (length store.old.core.globals) (length store.old.core.now.own) slot }
     requires can { CanAlter what }
@@ -112,7 +112,7 @@ fn new_integer(
 
 /// Drops the top, and puts a value in a variable's slot.
 #[inline(always)]
-fn put_in_place(value: Value, slot: Slot, store: &mut Store<'_>) -> Result<End, Memory>
+fn put_in_place(value: Value, slot: Slot, store: &mut Store<'_>) -> Result<End, AllocError>
     requires few { store.old.core.now.at + 1 < 2 ^ 64 }
     requires there { HasSlot (length store.old.core.globals) (length store.old.core.now.own) slot }
     requires some { IsSome (top_of store.old.core.now.operands) }

@@ -18,14 +18,13 @@ use crate::in_form::{load_form, put};
 use setl_code::{Literal, Slot};
 use setl_machine_control::{End, StopKind, go_on, pop_top, refusal};
 use setl_store::{Content, Store};
-use setl_store_environment::Memory;
 use setl_tree::Text as Name;
 use setl_value::{Text, Value};
-use std::alloc::Global;
+use std::alloc::{AllocError, Global};
 
 /// Pushes a value, or `om`. The error is want of memory.
 #[inline]
-pub fn push(value: Option<Value>, store: &mut Store<'_>) -> Result<End, Memory>
+pub fn push(value: Option<Value>, store: &mut Store<'_>) -> Result<End, AllocError>
     requires { store.old.core.now.at + 1 < 2 ^ 64 }
     ensures { (line : ℕ) → IfOk result (λ end. Works store.old line (Push (part value)) store.new end) }
 {
@@ -36,7 +35,7 @@ pub fn push(value: Option<Value>, store: &mut Store<'_>) -> Result<End, Memory>
 
 /// Pushes an integer. The error is want of memory.
 #[inline(always)]
-pub fn push_integer(value: &Literal, store: &mut Store<'_>) -> Result<End, Memory>
+pub fn push_integer(value: &Literal, store: &mut Store<'_>) -> Result<End, AllocError>
     requires { store.old.core.now.at + 1 < 2 ^ 64 }
     ensures { (line : ℕ) → IfOk result (λ end. Works store.old line (Push (Some (int value.now))) store.new end) }
 {
@@ -47,7 +46,7 @@ pub fn push_integer(value: &Literal, store: &mut Store<'_>) -> Result<End, Memor
 
 /// Pushes a string. The error is want of memory.
 #[inline(never)]
-pub fn push_text(alloc: Global, bytes: &Name, store: &mut Store<'_>) -> Result<End, Memory>
+pub fn push_text(alloc: Global, bytes: &Name, store: &mut Store<'_>) -> Result<End, AllocError>
     requires { store.old.core.now.at + 1 < 2 ^ 64 }
     ensures { (line : ℕ) → IfOk result (λ end. Works store.old line (Push (Some (text bytes.now))) store.new end) }
 {
@@ -59,7 +58,7 @@ pub fn push_text(alloc: Global, bytes: &Name, store: &mut Store<'_>) -> Result<E
 
 /// Pushes what a variable holds. The run is stuck where that was taken. The error is want of memory.
 #[inline(always)]
-pub fn load(slot: Slot, store: &mut Store<'_>) -> Result<End, Memory>
+pub fn load(slot: Slot, store: &mut Store<'_>) -> Result<End, AllocError>
     requires few { store.old.core.now.at + 1 < 2 ^ 64 }
     requires there { HasSlot (length store.old.core.globals) (length store.old.core.now.own) slot }
     ensures { (line : ℕ) → IfOk result (λ end. Works store.old line (Load (plain_slot (variables store.old.core) slot)) store.new end) }
@@ -78,7 +77,7 @@ pub fn load(slot: Slot, store: &mut Store<'_>) -> Result<End, Memory>
 /// Pushes what a variable holds, and leaves nothing there. The run is stuck where that was taken before. The error is want of
 /// memory.
 #[inline(always)]
-pub fn take(slot: Slot, store: &mut Store<'_>) -> Result<End, Memory>
+pub fn take(slot: Slot, store: &mut Store<'_>) -> Result<End, AllocError>
     requires few { store.old.core.now.at + 1 < 2 ^ 64 }
     requires there { HasSlot (length store.old.core.globals) (length store.old.core.now.own) slot }
     ensures { (line : ℕ) → IfOk result (λ end. Works store.old line (Take (plain_slot (variables store.old.core) slot)) store.new end) }
@@ -101,7 +100,7 @@ pub fn store_in(
     line: u32,
     declarations: &Declarations<'_>,
     store: &mut Store<'_>,
-) -> Result<End, Memory>
+) -> Result<End, AllocError>
     requires few { store.old.core.now.at + 1 < 2 ^ 64 }
     requires there { HasSlot (length store.old.core.globals) (length store.old.core.now.own) slot }
     requires serves { Serves declarations.now store.old }
@@ -131,7 +130,7 @@ pub fn store_at_once(
     slot: Slot,
     declarations: &Declarations<'_>,
     store: &mut Store<'_>,
-) -> Result<bool, Memory>
+) -> Result<bool, AllocError>
     requires few { store.old.core.now.at + 1 < 2 ^ 64 }
     requires there { HasSlot (length store.old.core.globals) (length store.old.core.now.own) slot }
     requires serves { Serves declarations.now store.old }

@@ -13,7 +13,7 @@ mod pairs;
 pub use gather::gathered;
 pub use maps::{add_image, change_image, domain, image, images, lessf, put, put_all, range};
 pub use pairs::parts;
-use setl_value::Memory;
+use std::alloc::AllocError;
 
 /// Why a map call gave no result.
 #[derive(Clone, Copy, Debug, PartialEq, Eq)]
@@ -26,13 +26,13 @@ pub enum MapFault {
     NoMemory,
 }
 
-impl From<Memory> for MapFault {
+impl From<AllocError> for MapFault {
     ghost use Rattle.std.specs.Prelude.{◌≡◌};
     ghost use Rattle.setl_map.specs.declared.MapFault.TheVariants.{NoMemory};
 
     ghost from_gives = { λ _ e. e ≡ NoMemory };
 
-    fn from(_e: Memory) -> MapFault {
+    fn from(_e: AllocError) -> MapFault {
         MapFault::NoMemory
     }
 }

@@ -17,7 +17,7 @@ use crate::MapFault;
 use crate::gather::gathered;
 use crate::pairs::{count_from, image_from, make_pair, only_image, parts_of, span};
 use setl_set::laws;
-use setl_value::{Cursor, Memory, SetBody, Value};
+use setl_value::{Cursor, SetBody, Value};
 use std::alloc::{AllocError, Global};
 
 /// The one image of `x`, and None where it has none or several. Kind exactly where a member is no pair. Its cost is
@@ -49,7 +49,7 @@ pub fn images(alloc: Global, f: &SetBody, x: &Value) -> Result<SetBody, MapFault
 }
 
 // The set of the images of `x` in a map.
-fn all_images(alloc: Global, f: &SetBody, x: &Value) -> Result<SetBody, Memory>
+fn all_images(alloc: Global, f: &SetBody, x: &Value) -> Result<SetBody, AllocError>
     requires { IsTrue (is_map (Members f.now)) }
     ensures { IfOk result (λ s. Members s ≡ images (datum x.now) (Members f.now)) }
 {
@@ -85,7 +85,7 @@ pub fn range(alloc: Global, f: &SetBody) -> Result<SetBody, MapFault>
 }
 
 // The set of first parts, or else of second parts.
-fn set_of_parts(alloc: Global, f: &SetBody, first: bool) -> Result<SetBody, Memory>
+fn set_of_parts(alloc: Global, f: &SetBody, first: bool) -> Result<SetBody, AllocError>
     ensures { IfOk result (λ s. Members s ≡ set_from (filter_map (part_at first) (Members f.now))) }
 {
     f.learn();
@@ -109,7 +109,7 @@ pub fn lessf(alloc: Global, f: &mut SetBody, x: &Value) -> Result<(), MapFault>
 }
 
 // Takes all pairs with the first part `x` out of a map.
-fn remove_point(alloc: Global, f: &mut SetBody, x: &Value) -> Result<(), Memory>
+fn remove_point(alloc: Global, f: &mut SetBody, x: &Value) -> Result<(), AllocError>
     requires { IsTrue (is_map (Members f.old)) }
     ensures removed { OnOk result (Members f.new ≡ without_point (datum x.now) (Members f.old)) }
     ensures refused { OnErr result (f.new ≡ f.old) }
@@ -158,7 +158,7 @@ fn is_deep_pair(x: &Value, y: &Value) -> bool
 }
 
 // Makes `y` the one image of `x` in a map, or leaves `x` without an image.
-fn put_shallow(alloc: Global, f: &mut SetBody, x: Value, y: Option<Value>) -> Result<(), Memory>
+fn put_shallow(alloc: Global, f: &mut SetBody, x: Value, y: Option<Value>) -> Result<(), AllocError>
     requires map { IsTrue (is_map (Members f.old)) }
     requires shallow { nat_le 500 (pair_depth (datum x) (part y)) ≡ false }
     ensures put { OnOk result (Members f.new ≡ put_image (datum x) (part y) (Members f.old)) }
@@ -172,7 +172,7 @@ fn put_shallow(alloc: Global, f: &mut SetBody, x: Value, y: Option<Value>) -> Re
 
 // Makes `y` the one image of `x` in a map: in the pair that stands there, where that is the only one and `y` is at least
 // as deep as its second part, and else in a new pair.
-fn put_pair(alloc: Global, f: &mut SetBody, x: Value, y: Value) -> Result<(), Memory>
+fn put_pair(alloc: Global, f: &mut SetBody, x: Value, y: Value) -> Result<(), AllocError>
     requires map { IsTrue (is_map (Members f.old)) }
     requires shallow { depth (pair (datum x) (datum y)) < 500 }
     ensures put { OnOk result (Members f.new ≡ put_image (datum x) (Some (datum y)) (Members f.old)) }
@@ -186,7 +186,7 @@ fn put_pair(alloc: Global, f: &mut SetBody, x: Value, y: Value) -> Result<(), Me
 }
 
 // Makes `y` the one image of `x`, whose pair stands at a place.
-fn overwrite(f: &mut SetBody, from: Cursor, x: &Value, y: Value) -> Result<(), Memory>
+fn overwrite(f: &mut SetBody, from: Cursor, x: &Value, y: Value) -> Result<(), AllocError>
     requires map { IsTrue (is_map (Members f.old)) }
     requires place { HasPlace f.old from }
     requires from { BeginsAt (datum x.now) (Members f.old) (rank f.old from) }
@@ -206,7 +206,7 @@ fn put_new_pair(
     from: Cursor,
     x: Value,
     y: Value,
-) -> Result<(), Memory>
+) -> Result<(), AllocError>
     requires map { IsTrue (is_map (Members f.old)) }
     requires place { HasPlace f.old from }
     requires from { BeginsAt (datum x) (Members f.old) (rank f.old from) }
@@ -223,7 +223,13 @@ fn put_new_pair(
 }
 
 // Puts the pair of `x` and `y` at a place, where `x` has no pairs.
-fn put_first(alloc: Global, f: &mut SetBody, from: Cursor, x: Value, y: Value) -> Result<(), Memory>
+fn put_first(
+    alloc: Global,
+    f: &mut SetBody,
+    from: Cursor,
+    x: Value,
+    y: Value,
+) -> Result<(), AllocError>
     requires map { IsTrue (is_map (Members f.old)) }
     requires place { HasPlace f.old from }
     requires from { IsBound false (datum x) (Members f.old) (rank f.old from) }
@@ -246,7 +252,7 @@ fn replace_pairs(
     count: usize,
     x: Value,
     y: Value,
-) -> Result<(), Memory>
+) -> Result<(), AllocError>
     requires map { IsTrue (is_map (Members f.old)) }
     requires place { HasPlace f.old from }
     requires from { IsBound false (datum x) (Members f.old) (rank f.old from) }
@@ -262,7 +268,7 @@ fn replace_pairs(
 }
 
 // The list of one pair.
-fn one_pair(alloc: Global, x: Value, y: Value) -> Result<Vec<Value>, Memory>
+fn one_pair(alloc: Global, x: Value, y: Value) -> Result<Vec<Value>, AllocError>
     requires { depth (pair (datum x) (datum y)) < 500 }
     ensures { IfOk result (λ ps. map datum ps.items ≡ pair (datum x) (datum y) ∷ []) }
 {
@@ -299,7 +305,12 @@ fn are_deep(x: &Value, s: &SetBody) -> bool
 }
 
 // Makes the members of `s` the images of `x` in a map.
-fn put_shallow_images(alloc: Global, f: &mut SetBody, x: &Value, s: &SetBody) -> Result<(), Memory>
+fn put_shallow_images(
+    alloc: Global,
+    f: &mut SetBody,
+    x: &Value,
+    s: &SetBody,
+) -> Result<(), AllocError>
     requires map { IsTrue (is_map (Members f.old)) }
     requires shallow { nat_lt 500 (depth (set_of (map (λ y. pair (datum x.now) y) (Members s.now)))) ≡ false }
     ensures put { OnOk result (Members f.new ≡ put_images (datum x.now) (Members s.now) (Members f.old)) }
@@ -316,7 +327,7 @@ fn put_shallow_images(alloc: Global, f: &mut SetBody, x: &Value, s: &SetBody) ->
 }
 
 // The pairs of `x` and each member of `s`.
-fn pairs_from(alloc: Global, x: &Value, s: &SetBody) -> Result<Vec<Value>, Memory>
+fn pairs_from(alloc: Global, x: &Value, s: &SetBody) -> Result<Vec<Value>, AllocError>
     requires { nat_lt 500 (depth (set_of (map (λ y. pair (datum x.now) y) (Members s.now)))) ≡ false }
     ensures { IfOk result (λ ps. map datum ps.items ≡ map (λ y. pair (datum x.now) y) (Members s.now)) }
 {
@@ -359,7 +370,7 @@ fn learn_added(f: &SetBody, x: &Value, y: &Value)
 }
 
 // Makes the pair of `x` and `y` a member. The error is want of memory: the condition leaves no other fault of the set.
-fn add_pair(alloc: Global, f: &mut SetBody, x: Value, y: Value) -> Result<(), Memory>
+fn add_pair(alloc: Global, f: &mut SetBody, x: Value, y: Value) -> Result<(), AllocError>
     requires { depth (pair (datum x) (datum y)) < 500 }
     ensures added { OnOk result (Members f.new ≡ insert_datum (pair (datum x) (datum y)) (Members f.old)) }
     ensures refused { OnErr result (f.new ≡ f.old) }
@@ -378,7 +389,7 @@ pub fn change_image<R, F: FnOnce(&mut Value) -> R>(
     f: &mut SetBody,
     x: &Value,
     change: F,
-) -> Result<Option<R>, Memory>
+) -> Result<Option<R>, AllocError>
     requires callable { F.IsAlwaysCallable change }
     requires grows { (d : Datum) → image (datum x.now) (Members f.old) ≡ Some d → depth d < 499 → Grows F.FnOnce change d 499 }
     ensures changed { IfOk result (λ o. IfSome o (λ r. ChangesImage F.FnOnce change (datum x.now) (Members f.old) r (Members f.new) (f.new ≡ f.old))) }
@@ -402,7 +413,7 @@ fn change_from<R, F: FnOnce(&mut Value) -> R>(
     from: Cursor,
     x: &Value,
     change: F,
-) -> Result<Option<R>, Memory>
+) -> Result<Option<R>, AllocError>
     requires map { IsTrue (is_map (Members f.old)) }
     requires place { HasPlace f.old from }
     requires from { BeginsAt (datum x.now) (Members f.old) (rank f.old from) }

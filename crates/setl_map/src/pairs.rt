@@ -11,8 +11,8 @@ ghost use Rattle.setl_value.specs.code.Places.{HasPlace, rank};
 ghost use Rattle.setl_map.specs.Maps.{image};
 ghost use Rattle.setl_map.specs.code.Points.{begins, is_at, BeginsAt, IsBound, part_at, pair_data};
 
-use setl_value::{Cursor, MemberIter, Memory, SetBody, TupleBody, Value};
-use std::alloc::Global;
+use setl_value::{Cursor, MemberIter, SetBody, TupleBody, Value};
+use std::alloc::{AllocError, Global};
 
 /// The two parts of a pair, and None for what is no pair.
 pub fn parts(v: &Value) -> Option<(&Value, &Value)>
@@ -130,7 +130,7 @@ pub(crate) fn parts_of(
     members: MemberIter<'_>,
     count: usize,
     first: bool,
-) -> Result<Vec<Value>, Memory>
+) -> Result<Vec<Value>, AllocError>
     ensures { IfOk result (λ vs. map datum vs.items ≡ filter_map (part_at first) (take count members.entry)) }
 {
     let mut rest = members;
@@ -145,7 +145,7 @@ pub(crate) fn parts_of(
 }
 
 // Puts a copy of the first part of a pair at the end, or else of the second part.
-fn push_part(first: bool, v: &Value, chosen: &mut Vec<Value>) -> Result<(), Memory>
+fn push_part(first: bool, v: &Value, chosen: &mut Vec<Value>) -> Result<(), AllocError>
     ensures { OnOk result (map datum chosen.new.items ≡ map datum chosen.old.items ++ option_to_list (part_at first (datum v.now))) }
 {
     if let Some((x, y)) = parts(v) {
@@ -156,7 +156,7 @@ fn push_part(first: bool, v: &Value, chosen: &mut Vec<Value>) -> Result<(), Memo
 }
 
 /// The pair of two values, which are at most 499 deep.
-pub(crate) fn make_pair(alloc: Global, x: Value, y: Value) -> Result<Value, Memory>
+pub(crate) fn make_pair(alloc: Global, x: Value, y: Value) -> Result<Value, AllocError>
     requires { (depth (datum x) < 500) × (depth (datum y) < 500) }
     ensures { IfOk result (λ p. datum p ≡ pair (datum x) (datum y)) }
 {

@@ -5,8 +5,8 @@ use setl_modes::{Form, Mode};
 use setl_modes_fit::fits;
 use setl_text::{Got, Reader};
 use setl_tree::Boxed;
-use setl_value::{Memory, Value};
-use std::alloc::Global;
+use setl_value::Value;
+use std::alloc::{AllocError, Global};
 use std::test::Fail;
 
 /// Values, modes and what fits, a line each. A mode is written with its words in their order and no brackets, as
@@ -87,12 +87,12 @@ fits | general | atom
 misfits | int | atom";
 
 /// The last mode that was made, taken out.
-fn taken(alloc: Global, made: &mut Vec<Mode>) -> Result<Boxed<Mode>, Memory> {
+fn taken(alloc: Global, made: &mut Vec<Mode>) -> Result<Boxed<Mode>, AllocError> {
     Boxed::new(alloc, made.pop().unwrap_or(Mode::General))
 }
 
 /// The mode that a word makes of the modes behind it.
-fn mode_of_word(alloc: Global, word: &str, made: &mut Vec<Mode>) -> Result<Mode, Memory> {
+fn mode_of_word(alloc: Global, word: &str, made: &mut Vec<Mode>) -> Result<Mode, AllocError> {
     match word {
         "int" => Ok(Mode::Int),
         "string" => Ok(Mode::Str),
@@ -108,7 +108,7 @@ fn mode_of_word(alloc: Global, word: &str, made: &mut Vec<Mode>) -> Result<Mode,
 }
 
 /// The map of the two modes behind its word.
-fn map_mode(alloc: Global, single: bool, made: &mut Vec<Mode>) -> Result<Mode, Memory> {
+fn map_mode(alloc: Global, single: bool, made: &mut Vec<Mode>) -> Result<Mode, AllocError> {
     let domain = taken(alloc, made)?;
     let images = taken(alloc, made)?;
     if single {
@@ -119,7 +119,7 @@ fn map_mode(alloc: Global, single: bool, made: &mut Vec<Mode>) -> Result<Mode, M
 }
 
 /// The mode that these words write.
-fn mode(alloc: Global, words: &str) -> Result<Mode, Memory> {
+fn mode(alloc: Global, words: &str) -> Result<Mode, AllocError> {
     let mut made = Vec::new(alloc);
     for word in words.rsplit(' ') {
         let next = mode_of_word(alloc, word, &mut made)?;
@@ -134,7 +134,7 @@ fn answer(mode: &Mode, value: &Option<Value>) -> &'static str {
 }
 
 /// Whether the value or `om` that is denoted fits this mode, as a word.
-fn answer_to(alloc: Global, mode: &Mode, denotation: &str) -> Result<&'static str, Memory> {
+fn answer_to(alloc: Global, mode: &Mode, denotation: &str) -> Result<&'static str, AllocError> {
     if denotation == "atom" {
         return Ok(answer(mode, &Some(Value::Atom(7))));
     }
@@ -148,7 +148,7 @@ fn answer_to(alloc: Global, mode: &Mode, denotation: &str) -> Result<&'static st
 }
 
 /// Whether the value or `om` that is denoted fits the mode that these words write, as a word.
-fn answer_in(alloc: Global, words: &str, denotation: &str) -> Result<&'static str, Memory> {
+fn answer_in(alloc: Global, words: &str, denotation: &str) -> Result<&'static str, AllocError> {
     let mode = mode(alloc, words)?;
     answer_to(alloc, &mode, denotation)
 }

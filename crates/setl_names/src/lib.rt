@@ -26,4 +26,3 @@ pub use names::Names;
 pub use occurrence::{Argument, Occurrence, What};
 pub use procs::Procs;
 pub use rules::body_break;
-pub use std::alloc::AllocError as Memory;

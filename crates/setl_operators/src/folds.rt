@@ -11,8 +11,8 @@ ghost use Rattle.setl_operators.specs.Combinations.{combination};
 
 use setl_operators_arithmetic::{both, either, greater, lesser, plus_in_place, times};
 use setl_operators_table::{Answer, OpFault};
-use setl_value::{Memory, SetBody, TupleBody, Value};
-use std::alloc::Global;
+use setl_value::{SetBody, TupleBody, Value};
+use std::alloc::{AllocError, Global};
 
 /// How a fold combines two values.
 #[derive(Clone, Copy)]
@@ -151,7 +151,7 @@ fn sum(alloc: Global, a: Value, b: &Value) -> Result<Answer, OpFault>
 }
 
 // A copy of a value, or `om`.
-fn copied(v: Option<&Value>) -> Result<Option<Value>, Memory>
+fn copied(v: Option<&Value>) -> Result<Option<Value>, AllocError>
     ensures { IfOk result (λ o. part o ≡ lent v.entry) }
 {
     match v {

@@ -13,8 +13,8 @@ use setl_operators_table::answers::{set, string, tuple};
 use setl_operators_table::{Answer, OpFault};
 use setl_scalar::ScalarFault;
 use setl_tuple::TupleFault;
-use setl_value::{Memory, SetBody, Text, TupleBody, Value};
-use std::alloc::Global;
+use setl_value::{SetBody, Text, TupleBody, Value};
+use std::alloc::{AllocError, Global};
 
 /// `whole(at)`: the only image of a map at a point, or the component of a tuple or the byte of a string at a place; `om`
 /// where there is none. Range for a place below 1.
@@ -52,7 +52,7 @@ fn component(t: &TupleBody, i: i128) -> Result<Answer, OpFault>
 }
 
 // A copy of a component.
-fn copied(p: Option<&Value>) -> Result<Option<Value>, Memory>
+fn copied(p: Option<&Value>) -> Result<Option<Value>, AllocError>
     ensures { IfOk result (λ o. part o ≡ option_map (λ v. datum v.now) p.entry) }
 {
     match p {

@@ -12,8 +12,8 @@ ghost use Rattle.setl_operators_enumerations.specs.ValueData.{value_data};
 use setl_map::gathered;
 use setl_operators_table::answers::{shallow_set, shallow_tuple};
 use setl_operators_table::{Answer, OpFault};
-use setl_value::{Memory, TupleBody, Value};
-use std::alloc::Global;
+use setl_value::{TupleBody, Value};
+use std::alloc::{AllocError, Global};
 
 /// `{a, b, ..}`. Om where an operand is `om`, Deep where the set is more than 500 deep.
 pub fn enumerate_set(alloc: Global, operands: &[Option<Value>]) -> Result<Answer, OpFault>
@@ -29,7 +29,7 @@ pub fn enumerate_set(alloc: Global, operands: &[Option<Value>]) -> Result<Answer
 }
 
 // Copies of some operands, and None where one of them is `om`.
-fn all_values(alloc: Global, operands: &[Option<Value>]) -> Result<Option<Vec<Value>>, Memory>
+fn all_values(alloc: Global, operands: &[Option<Value>]) -> Result<Option<Vec<Value>>, AllocError>
     ensures { IfOk result (λ o. all_values (map part operands.now) ≡ option_map value_data o) }
 {
     let mut values = Vec::with_capacity(alloc, operands.len())?;
@@ -43,7 +43,7 @@ fn all_values(alloc: Global, operands: &[Option<Value>]) -> Result<Option<Vec<Va
 }
 
 // Puts a copy at the end.
-fn push_copy(v: &Value, values: &mut Vec<Value>) -> Result<(), Memory>
+fn push_copy(v: &Value, values: &mut Vec<Value>) -> Result<(), AllocError>
     ensures { OnOk result (map datum values.new.items ≡ map datum values.old.items ++ datum v.now ∷ []) }
 {
     values.push(v.copy()?)?;

@@ -14,8 +14,8 @@ use crate::counts::{range_count, step_count};
 use crate::integers::integers;
 use setl_map::gathered;
 use setl_operators_table::{Answer, OpFault};
-use setl_value::{Memory, TupleBody, Value};
-use std::alloc::Global;
+use setl_value::{TupleBody, Value};
+use std::alloc::{AllocError, Global};
 
 /// `{a..b}`: the set of the integers from a to b, which charges their number.
 pub fn set_range(alloc: Global, a: &Value, b: &Value, turns: u64) -> Result<Answer, OpFault>
@@ -144,7 +144,7 @@ fn tuple_of_integers(alloc: Global, a: i128, step: i128, n: u64) -> Result<Answe
 }
 
 // The values as components of a tuple.
-fn components(alloc: Global, values: Vec<Value>) -> Result<Vec<Option<Value>>, Memory>
+fn components(alloc: Global, values: Vec<Value>) -> Result<Vec<Option<Value>>, AllocError>
     ensures { IfOk result (λ ps. ps.items ≡ map Some values.items) }
 {
     values.into_iter().map(Some).collect(alloc)

@@ -9,7 +9,8 @@ pub mod answers;
 pub mod laws;
 pub mod ranges;
 
-use setl_value::{Memory, Value};
+use setl_value::Value;
+use std::alloc::AllocError;
 
 /// Why an operator gave no value. Where several causes hold, the first in the order Om, Kind, Zero, Range, Spent, Wide,
 /// Deep counts; NoMemory may come at any point.
@@ -33,13 +34,13 @@ pub enum OpFault {
     NoMemory,
 }
 
-impl From<Memory> for OpFault {
+impl From<AllocError> for OpFault {
     ghost use Rattle.std.specs.Prelude.{◌≡◌};
     ghost use Rattle.setl_operators_table.specs.declared.OpFault.TheVariants.{NoMemory};
 
     ghost from_gives = { λ _ e. e ≡ NoMemory };
 
-    fn from(_e: Memory) -> OpFault {
+    fn from(_e: AllocError) -> OpFault {
         OpFault::NoMemory
     }
 }

@@ -12,5 +12,4 @@ mod selections;
 mod statements;
 mod tree;
 
-pub use std::alloc::AllocError as Memory;
 pub use tree::elaborate;

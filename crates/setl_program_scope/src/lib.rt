@@ -13,4 +13,3 @@ pub use bound::{names_of_bound, names_of_turns, put_turn};
 pub use held::beside;
 pub use opened::Opened;
 pub use scope::Scope;
-pub use std::alloc::AllocError as Memory;

@@ -4,11 +4,10 @@ ghost use Rattle.std.specs.List.Sorted.{IsStrictlyIncreasing};
 ghost use Rattle.std.specs.FinSet as set;
 ghost use Rattle.setl_remote.specs.Operation.{keeps};
 
-use crate::Memory;
 use crate::combine::{Operation, combine};
 use crate::numbers::numbers;
 use crate::words::{count, is_on, write};
-use std::alloc::Global;
+use std::alloc::{AllocError, Global};
 use std::marker::Model;
 use std::rc::Rc;
 
@@ -37,7 +36,7 @@ impl Model for Bits {
 }
 
 /// The set that an operation makes of two.
-fn combined(alloc: Global, operation: Operation, a: &Bits, b: &Bits) -> Result<Bits, Memory>
+fn combined(alloc: Global, operation: Operation, a: &Bits, b: &Bits) -> Result<Bits, AllocError>
     ensures { IfOk result (λ bits. (n : ℕ) → set.contains bits n ≡ keeps operation (set.contains a.now n) (set.contains b.now n)) }
 {
     let words = combine(alloc, operation, a.words.as_slice(), b.words.as_slice())?;
@@ -48,7 +47,7 @@ fn combined(alloc: Global, operation: Operation, a: &Bits, b: &Bits) -> Result<B
 
 impl Bits {
     /// No numbers. An error is want of memory.
-    pub fn new(alloc: Global) -> Result<Bits, Memory>
+    pub fn new(alloc: Global) -> Result<Bits, AllocError>
         ensures { IfOk result (λ bits. bits ≡ set.empty) }
     {
         Ok(Bits {
@@ -71,7 +70,7 @@ impl Bits {
     }
 
     /// The numbers, rising. An error is want of memory.
-    pub fn numbers(&self, alloc: Global) -> Result<Vec<u64>, Memory>
+    pub fn numbers(&self, alloc: Global) -> Result<Vec<u64>, AllocError>
         ensures rising { IfOk result (λ numbers. IsStrictlyIncreasing numbers.items) }
         ensures members { IfOk result (λ numbers. set.from_list numbers.items ≡ self.now) }
     {
@@ -79,7 +78,7 @@ impl Bits {
     }
 
     /// An equal set, which shares the words. An error is want of memory.
-    pub fn copy(&self) -> Result<Bits, Memory>
+    pub fn copy(&self) -> Result<Bits, AllocError>
         ensures { IfOk result (λ bits. bits ≡ self.now) }
     {
         Ok(Bits {
@@ -89,7 +88,7 @@ impl Bits {
 
     /// Puts the number in where `on` is true, and takes it out where it is false. The error is want of memory, or that one of
     /// the last 64 numbers is put in.
-    pub fn put(&mut self, block: u64, on: bool) -> Result<(), Memory>
+    pub fn put(&mut self, block: u64, on: bool) -> Result<(), AllocError>
         ensures ok { OnOk result (self.new ≡ (if on then set.insert self.old block else set.remove self.old block)) }
         ensures err { OnErr result (self.new ≡ self.old) }
     {
@@ -97,28 +96,28 @@ impl Bits {
     }
 
     /// The numbers that are in both sets. An error is want of memory.
-    pub fn and(alloc: Global, a: &Bits, b: &Bits) -> Result<Bits, Memory>
+    pub fn and(alloc: Global, a: &Bits, b: &Bits) -> Result<Bits, AllocError>
         ensures { IfOk result (λ bits. bits ≡ set.intersection a.now b.now) }
     {
         combined(alloc, Operation::And, a, b)
     }
 
     /// The numbers that are in one set or in both. An error is want of memory.
-    pub fn or(alloc: Global, a: &Bits, b: &Bits) -> Result<Bits, Memory>
+    pub fn or(alloc: Global, a: &Bits, b: &Bits) -> Result<Bits, AllocError>
         ensures { IfOk result (λ bits. bits ≡ set.union a.now b.now) }
     {
         combined(alloc, Operation::Or, a, b)
     }
 
     /// The numbers of `a` that aren't in `b`. An error is want of memory.
-    pub fn minus(alloc: Global, a: &Bits, b: &Bits) -> Result<Bits, Memory>
+    pub fn minus(alloc: Global, a: &Bits, b: &Bits) -> Result<Bits, AllocError>
         ensures { IfOk result (λ bits. bits ≡ set.difference a.now b.now) }
     {
         combined(alloc, Operation::Minus, a, b)
     }
 
     /// The numbers that are in one set and not in the other. An error is want of memory.
-    pub fn xor(alloc: Global, a: &Bits, b: &Bits) -> Result<Bits, Memory>
+    pub fn xor(alloc: Global, a: &Bits, b: &Bits) -> Result<Bits, AllocError>
         ensures { IfOk result (λ bits. bits ≡ set.union (set.difference a.now b.now) (set.difference b.now a.now)) }
     {
         combined(alloc, Operation::Xor, a, b)

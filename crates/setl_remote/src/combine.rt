@@ -3,9 +3,8 @@ ghost use Rattle.std.specs.Prelude.{◌≡◌, ℕ, ◌^◌, ◌<◌, max, lengt
 ghost use Rattle.setl_remote.specs.Words.{has_bit};
 ghost use Rattle.setl_remote.specs.Operation.{word_of, keeps};
 
-use crate::Memory;
 use crate::words::word;
-use std::alloc::Global;
+use std::alloc::{AllocError, Global};
 
 /// What is made of two words.
 #[derive(Clone, Copy)]
@@ -34,7 +33,7 @@ pub(crate) fn combine(
     operation: Operation,
     x: &[u64],
     y: &[u64],
-) -> Result<Vec<u64>, Memory>
+) -> Result<Vec<u64>, AllocError>
     ensures len { IfOk result (λ words. length words.items ≡ max (length x.now) (length y.now)) }
     ensures bits { IfOk result (λ words. (n : ℕ) → has_bit words.items n ≡ keeps operation (has_bit x.now n) (has_bit y.now n)) }
 {

@@ -12,4 +12,3 @@ mod words;
 
 pub use bits::Bits;
 pub use slots::Slots;
-pub use std::alloc::AllocError as Memory;

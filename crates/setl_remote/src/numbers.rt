@@ -4,12 +4,11 @@ ghost use Rattle.std.specs.List.Sorted.{IsStrictlyIncreasing};
 ghost use Rattle.std.specs.FinSet as set;
 ghost use Rattle.setl_remote.specs.Words.{has_bit, members, ones};
 
-use crate::Memory;
 use crate::words::is_on;
-use std::alloc::Global;
+use std::alloc::{AllocError, Global};
 
 /// The numbers whose bits are on, rising.
-pub(crate) fn numbers(alloc: Global, words: &[u64]) -> Result<Vec<u64>, Memory>
+pub(crate) fn numbers(alloc: Global, words: &[u64]) -> Result<Vec<u64>, AllocError>
     requires { length words.now < 2 ^ 58 }
     ensures rising { IfOk result (λ list. IsStrictlyIncreasing list.items) }
     ensures members { IfOk result (λ list. set.from_list list.items ≡ members words.now) }
@@ -22,7 +21,7 @@ pub(crate) fn numbers(alloc: Global, words: &[u64]) -> Result<Vec<u64>, Memory>
 }
 
 /// Puts the numbers of the i-th word whose bits are on at the end of those of the words before it.
-fn push_ones(words: &[u64], i: usize, list: &mut Vec<u64>) -> Result<(), Memory>
+fn push_ones(words: &[u64], i: usize, list: &mut Vec<u64>) -> Result<(), AllocError>
     requires few { length words.now < 2 ^ 58 }
     requires there { i < length words.now }
     requires front { list.old.items ≡ ones words.now (64 * i) }
@@ -39,7 +38,7 @@ fn push_ones(words: &[u64], i: usize, list: &mut Vec<u64>) -> Result<(), Memory>
 }
 
 /// Puts the number at the end, if its bit is on.
-fn push_one(words: &[u64], n: u64, list: &mut Vec<u64>) -> Result<(), Memory>
+fn push_one(words: &[u64], n: u64, list: &mut Vec<u64>) -> Result<(), AllocError>
     ensures { OnOk result (list.new.items ≡ (if has_bit words.now n then list.old.items ++ n ∷ [] else list.old.items)) }
 {
     if is_on(words, n) {

@@ -3,8 +3,7 @@ ghost use Rattle.std.specs.Prelude.{◌≡◌, ℕ, ◌+◌, ◌<◌, ◌≤◌,
 ghost use Rattle.std.specs.List.{IsAmong};
 ghost use Rattle.setl_remote.specs.Slots.{slot_at, slots_len, PutsSlot, AreSlotCopies};
 
-use crate::Memory;
-use std::alloc::Global;
+use std::alloc::{AllocError, Global};
 use std::marker::Model;
 use std::mem;
 
@@ -30,7 +29,7 @@ impl<T> Model for Slots<T> {
 }
 
 /// Puts empty slots at the end, up to this number of slots.
-fn lengthen<T: Drop>(slots: &mut Vec<Option<T>>, len: usize) -> Result<(), Memory>
+fn lengthen<T: Drop>(slots: &mut Vec<Option<T>>, len: usize) -> Result<(), AllocError>
     ensures len { OnOk result (length slots.new.items ≡ max (length slots.old.items) len) }
     ensures same { (n : ℕ) → slot_at slots.new.items n ≡ slot_at slots.old.items n }
     ensures err { OnErr result (slots.new.items ≡ slots.old.items) }
@@ -44,7 +43,11 @@ fn lengthen<T: Drop>(slots: &mut Vec<Option<T>>, len: usize) -> Result<(), Memor
 }
 
 /// Gives the slot of the number a content, and gives back its old one.
-fn fill<T: Drop>(slots: &mut Vec<Option<T>>, block: u64, content: T) -> Result<Option<T>, Memory>
+fn fill<T: Drop>(
+    slots: &mut Vec<Option<T>>,
+    block: u64,
+    content: T,
+) -> Result<Option<T>, AllocError>
     requires { 0 < length slots.old.items }
     ensures old { IfOk result (λ old. old ≡ slot_at slots.old.items block) }
     ensures ok { OnOk result (PutsSlot block (Some content) slots.old.items slots.new.items) }
@@ -54,7 +57,7 @@ fn fill<T: Drop>(slots: &mut Vec<Option<T>>, block: u64, content: T) -> Result<O
 {
     let i = block as usize;
     let Some(len) = i.checked_add(1) else {
-        return Err(Memory);
+        return Err(AllocError);
     };
     lengthen(slots, len)?;
     Ok(mem::replace(&mut slots[i], Some(content)))
@@ -104,7 +107,7 @@ impl<T: Clone> Clone for Slots<T> {
     ghost is_clone = { AreSlotCopies T.is_clone };
 
     /// A copy of each content at the same number, and the same length. An error is want of memory.
-    fn clone(&self) -> Result<Slots<T>, Memory> {
+    fn clone(&self) -> Result<Slots<T>, AllocError> {
         Ok(Slots {
             slots: self.slots.clone()?,
         })
@@ -113,7 +116,7 @@ impl<T: Clone> Clone for Slots<T> {
 
 impl<T: Drop> Slots<T> {
     /// No contents, and the length 0. An error is want of memory.
-    pub fn new(alloc: Global) -> Result<Slots<T>, Memory>
+    pub fn new(alloc: Global) -> Result<Slots<T>, AllocError>
         ensures { IfOk result (λ slots. slots ≡ None ∷ []) }
     {
         let mut slots = Vec::with_capacity(alloc, 1)?;
@@ -123,7 +126,7 @@ impl<T: Drop> Slots<T> {
 
     /// Gives the number the content `c`, or none, and gives back its old content; `None` where it had none. A content makes
     /// the length the greater of itself and the number. The error is want of memory, or that the number is 2^64 - 1.
-    pub fn put(&mut self, block: u64, c: Option<T>) -> Result<Option<T>, Memory>
+    pub fn put(&mut self, block: u64, c: Option<T>) -> Result<Option<T>, AllocError>
         ensures old { IfOk result (λ old. old ≡ slot_at self.old block) }
         ensures ok { OnOk result (PutsSlot block c self.old self.new) }
         ensures len { OnOk result (slots_len self.new ≡ (if is_some c then max (slots_len self.old) block else slots_len self.old)) }

@@ -3,7 +3,7 @@ ghost use Rattle.std.specs.Prelude.{◌≡◌, ℕ, ◌^◌, ◌<◌, true, fals
 ghost use Rattle.std.specs.FinSet as set;
 ghost use Rattle.setl_remote.specs.Words.{Writes, has_bit, members};
 
-use crate::Memory;
+use std::alloc::AllocError;
 use std::rc::Rc;
 
 /// The most words of a vector, so that the numbers in it can be counted by a `u64`.
@@ -40,7 +40,7 @@ pub(crate) fn count(words: &[u64]) -> u64
 
 /// Puts words that are 0 at the end, so that the i-th is there. The error is want of memory, or that there would be more
 /// than 2^58 - 1 words.
-fn lengthen(words: &mut Vec<u64>, i: usize) -> Result<(), Memory>
+fn lengthen(words: &mut Vec<u64>, i: usize) -> Result<(), AllocError>
     requires { length words.old.items < 2 ^ 58 }
     ensures short { length words.new.items < 2 ^ 58 }
     ensures long { OnOk result (i < length words.new.items) }
@@ -51,13 +51,13 @@ fn lengthen(words: &mut Vec<u64>, i: usize) -> Result<(), Memory>
         return Ok(());
     }
     if i >= MOST_WORDS {
-        return Err(Memory);
+        return Err(AllocError);
     }
     words.resize(i + 1, 0)
 }
 
 /// Turns the bit of the number on.
-fn turn_on(words: &mut Vec<u64>, block: u64) -> Result<(), Memory>
+fn turn_on(words: &mut Vec<u64>, block: u64) -> Result<(), AllocError>
     requires { length words.old.items < 2 ^ 58 }
     ensures short { length words.new.items < 2 ^ 58 }
     ensures ok { OnOk result (Writes block true words.old.items words.new.items) }
@@ -81,7 +81,7 @@ fn turn_off(words: &mut Vec<u64>, block: u64)
 }
 
 /// Gives the number its bit, in words of its own.
-pub(crate) fn write(words: &mut Rc<Vec<u64>>, block: u64, on: bool) -> Result<(), Memory>
+pub(crate) fn write(words: &mut Rc<Vec<u64>>, block: u64, on: bool) -> Result<(), AllocError>
     requires { length words.old.value.items < 2 ^ 58 }
     ensures short { length words.new.value.items < 2 ^ 58 }
     ensures ok { OnOk result (Writes block on words.old.value.items words.new.value.items) }

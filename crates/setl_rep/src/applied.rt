@@ -11,7 +11,6 @@ ghost use Rattle.setl_rep_forms.specs.FormOf.{form};
 ghost use Rattle.setl_rep_bases.specs.Bases.{BasesState};
 ghost use Rattle.setl_rep_forms.specs.Stands.{IsOver};
 
-use crate::Memory;
 use crate::by_change::with_or_less;
 use crate::by_kernel::by_kernel;
 use setl_operators::{Answer, OpFault, Operator, op};
@@ -19,7 +18,7 @@ use setl_rep_bases::Bases;
 use setl_rep_forms::Held;
 use setl_rep_plain::plain;
 use setl_value::Value;
-use std::alloc::Global;
+use std::alloc::{AllocError, Global};
 
 /// What an operator gave, in a form, and the turns that it charges.
 #[derive(Drop)]
@@ -86,7 +85,7 @@ fn by_forms(
 }
 
 // The values of operands.
-fn values(alloc: Global, args: Vec<Held>, bases: &Bases) -> Result<Vec<Option<Value>>, Memory>
+fn values(alloc: Global, args: Vec<Held>, bases: &Bases) -> Result<Vec<Option<Value>>, AllocError>
     requires { AreHeldOver bases.now args.items }
     ensures { IfOk result (λ vs. map part vs.items ≡ map (held_value bases.now) args.items) }
 {
@@ -98,7 +97,7 @@ fn values(alloc: Global, args: Vec<Held>, bases: &Bases) -> Result<Vec<Option<Va
 }
 
 /// The value of an operand.
-pub(crate) fn value(alloc: Global, h: Held, bases: &Bases) -> Result<Option<Value>, Memory>
+pub(crate) fn value(alloc: Global, h: Held, bases: &Bases) -> Result<Option<Value>, AllocError>
     requires { IsHeldOver bases.now h }
     ensures { IfOk result (λ v. part v ≡ held_value bases.now h) }
 {

@@ -13,14 +13,13 @@ ghost use Rattle.setl_rep_plain.specs.Standing.{held_value};
 ghost use Rattle.setl_rep.specs.ByKernel.{has_one, has_two, has_kernel, is_told, is_combined, IsLikeFirst};
 ghost use Rattle.setl_rep.specs.Standing.{AreHeldOver};
 
-use crate::Memory;
 use crate::applied::Applied;
 use setl_operators::Operator;
 use setl_rep_bases::Bases;
 use setl_rep_forms::Held;
 use setl_rep_kernels::{SetOperation, combined, is_in, size};
 use setl_value::Value;
-use std::alloc::Global;
+use std::alloc::{AllocError, Global};
 
 /// What an operator gives of operands for which it has a kernel; None for others. An error is want of memory, which comes for
 /// operations on two sets alone.
@@ -29,7 +28,7 @@ pub(crate) fn by_kernel(
     what: Operator,
     args: &[Held],
     bases: &Bases,
-) -> Result<Option<Applied>, Memory>
+) -> Result<Option<Applied>, AllocError>
     requires { AreHeldOver bases.now args.now }
     ensures value { IfOk result (λ o. IfSome o (λ a. (left : ℕ) → op_of what (map (held_value bases.now) args.now) left ≡ Gives (held_value bases.now a.held) a.charged)) }
     ensures over { IfOk result (λ o. IfSome o (λ a. IsOver bases.now (form a.held))) }
@@ -68,7 +67,7 @@ fn of_two(
     a: &Held,
     b: &Held,
     bases: &Bases,
-) -> Result<Option<Applied>, Memory>
+) -> Result<Option<Applied>, AllocError>
     requires first { IsOver bases.now (form a.now) }
     requires second { IsOver bases.now (form b.now) }
     ensures value { IfOk result (λ o. IfSome o (λ r. (left : ℕ) → op_of what (stands bases.now (form a.now) ∷ stands bases.now (form b.now) ∷ []) left ≡ Gives (held_value bases.now r.held) r.charged)) }
@@ -123,7 +122,7 @@ fn of_sets(
     a: &Held,
     b: &Held,
     bases: &Bases,
-) -> Result<Option<Applied>, Memory>
+) -> Result<Option<Applied>, AllocError>
     requires first { IsOver bases.now (form a.now) }
     requires second { IsOver bases.now (form b.now) }
     ensures value { IfOk result (λ o. IfSome o (λ r. (left : ℕ) → op_of (operator_of what) (stands bases.now (form a.now) ∷ stands bases.now (form b.now) ∷ []) left ≡ Gives (held_value bases.now r.held) r.charged)) }

@@ -13,7 +13,6 @@ ghost use Rattle.setl_rep_plain.specs.Standing.{held_value, IsHeldOver};
 ghost use Rattle.setl_rep.specs.Standing.{AreLengthenedBy};
 ghost use Rattle.setl_rep.specs.declared.conversion.ConvertFault.TheVariants as fault;
 
-use crate::Memory;
 use crate::own_form::is_ready;
 use setl_modes::Mode;
 use setl_modes_fit::fits;
@@ -23,7 +22,7 @@ use setl_rep_entering::{base_marks, enter_places, take_back};
 use setl_rep_forms::Held;
 use setl_rep_plain::plain;
 use setl_value::Value;
-use std::alloc::Global;
+use std::alloc::{AllocError, Global};
 
 /// Why a value doesn't go into the form of a mode.
 #[derive(Clone, Copy, Debug, PartialEq, Eq)]
@@ -34,13 +33,13 @@ pub enum ConvertFault {
     NoMemory,
 }
 
-impl From<Memory> for ConvertFault {
+impl From<AllocError> for ConvertFault {
     ghost use Rattle.std.specs.Prelude.{◌≡◌};
     ghost use Rattle.setl_rep.specs.declared.conversion.ConvertFault.TheVariants.{NoMemory};
 
     ghost from_gives = { λ _ e. e ≡ NoMemory };
 
-    fn from(_e: Memory) -> ConvertFault {
+    fn from(_e: AllocError) -> ConvertFault {
         ConvertFault::NoMemory
     }
 }
@@ -92,7 +91,7 @@ fn entered(
     v: &Value,
     bases: &mut Bases,
     instance: u64,
-) -> Result<Held, Memory>
+) -> Result<Held, AllocError>
     requires fits { datum_fits (mode_of mode.now) (datum v.now) ≡ true }
     requires there { BasesAreThere bases.old instance (mode_of mode.now) }
     ensures over { IfOk result (λ r. IsOver bases.new (form r)) }

@@ -9,4 +9,3 @@ mod own_form;
 
 pub use applied::{Applied, apply};
 pub use conversion::{ConvertFault, convert};
-pub use std::alloc::AllocError as Memory;

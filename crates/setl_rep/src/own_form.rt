@@ -13,14 +13,13 @@ ghost use Rattle.setl_rep_based.specs.Numbers.{layout_of, numbers_in};
 ghost use Rattle.setl_rep_building.specs.HasForm.{layout_of as layout_of_attribute};
 ghost use Rattle.setl_rep.specs.OwnForm.{IsReady};
 
-use crate::Memory;
 use setl_base::Base;
 use setl_modes::{Form, Mode};
 use setl_modes_fit::fits;
 use setl_rep_based::{Numbers, member};
 use setl_rep_bases::{BaseId, Bases};
 use setl_rep_forms::{Held, laws};
-use std::alloc::Global;
+use std::alloc::{AllocError, Global};
 
 /// Whether a set is held as the numbers that a mode asks for, and fits the mode. No plain value is made of it. Ok(false) comes
 /// for all other forms too, and the error is want of memory.
@@ -30,7 +29,7 @@ pub(crate) fn is_ready(
     h: &Held,
     bases: &Bases,
     instance: u64,
-) -> Result<bool, Memory>
+) -> Result<bool, AllocError>
     requires { IsOver bases.now (form h.now) }
     ensures { IfOk result (λ t. t ≡ true → IsReady bases.now instance (mode_of mode.now) (form h.now)) }
 {
@@ -54,7 +53,7 @@ fn is_set_ready(
     held: Numbers<'_>,
     bases: &Bases,
     instance: u64,
-) -> Result<bool, Memory>
+) -> Result<bool, AllocError>
     requires there { IsThere bases.now b }
     ensures { IfOk result (λ t. t ≡ true → IsReady bases.now instance (mode_of mode.now) (numbers (layout_of held.entry) b (numbers_in held.entry))) }
 {
@@ -95,7 +94,7 @@ fn lies_so(f: Form, held: Numbers<'_>) -> bool
 
 // Whether the members at these numbers fit a mode.
 #[tactic(auto, using(crate::proofs::Ready::all_in_set))]
-fn all_fit(k: &Mode, base: &Base, list: &[u64]) -> Result<bool, Memory>
+fn all_fit(k: &Mode, base: &Base, list: &[u64]) -> Result<bool, AllocError>
     ensures { IfOk result (λ t. t ≡ true → list_all (datum_fits (mode_of k.now)) (members_at base.now (set.from_list list.now)) ≡ true) }
 {
     laws::sets_have_their_members();
@@ -108,7 +107,7 @@ fn all_fit(k: &Mode, base: &Base, list: &[u64]) -> Result<bool, Memory>
 }
 
 // Whether the member at a number, where there is one, fits a mode.
-fn member_fits(k: &Mode, base: &Base, n: u64) -> Result<bool, Memory>
+fn member_fits(k: &Mode, base: &Base, n: u64) -> Result<bool, AllocError>
     ensures { IfOk result (λ t. t ≡ part_fits (datum_fits (mode_of k.now)) (value_at base.now n)) }
 {
     match member(base, n) {

@@ -6,18 +6,18 @@ ghost use Rattle.setl_base.specs.Base.{value_of, IsLiving};
 ghost use Rattle.setl_rep_forms.specs.Stands.{members_at, AreLiving};
 ghost use Rattle.setl_rep_based.specs.Members.{IsPut};
 
-use crate::Memory;
 use setl_base::{Base, Elt};
 use setl_remote::Bits;
 use setl_rep_forms::laws;
 use setl_sparse::SparseSet;
+use std::alloc::AllocError;
 use std::rc::Rc;
 
 /// Puts a member of the base into a set where `on` is true, and takes it out where it is false: in place, where the set
 /// has its words alone.
 ///
 /// An error is want of memory, or that the block has one of the last 64 numbers, and then the set is as before.
-pub fn put_in_bits(base: &Base, bits: &mut Bits, e: Elt, on: bool) -> Result<(), Memory>
+pub fn put_in_bits(base: &Base, bits: &mut Bits, e: Elt, on: bool) -> Result<(), AllocError>
     requires member { IsLiving base.now e }
     requires living { AreLiving base.now bits.old }
     ensures put { OnOk result (IsPut base.now e on bits.old bits.new) }
@@ -34,7 +34,12 @@ pub fn put_in_bits(base: &Base, bits: &mut Bits, e: Elt, on: bool) -> Result<(),
 /// else holds the set.
 ///
 /// An error is want of memory, and then the set is as before.
-pub fn put_in_table(base: &Base, shared: &mut Rc<SparseSet>, e: Elt, on: bool) -> Result<(), Memory>
+pub fn put_in_table(
+    base: &Base,
+    shared: &mut Rc<SparseSet>,
+    e: Elt,
+    on: bool,
+) -> Result<(), AllocError>
     requires member { IsLiving base.now e }
     requires living { AreLiving base.now shared.old.value }
     ensures put { OnOk result (IsPut base.now e on shared.old.value shared.new.value) }
@@ -48,7 +53,7 @@ pub fn put_in_table(base: &Base, shared: &mut Rc<SparseSet>, e: Elt, on: bool) -
 }
 
 // Puts a number in or takes it out, in a set of its own.
-fn put(shared: &mut Rc<SparseSet>, block: u64, on: bool) -> Result<(), Memory>
+fn put(shared: &mut Rc<SparseSet>, block: u64, on: bool) -> Result<(), AllocError>
     ensures put { OnOk result (shared.new.value ≡ (if on then set.insert shared.old.value block else set.remove shared.old.value block)) }
     ensures refused { OnErr result (shared.new.value ≡ shared.old.value) }
 {

@@ -14,5 +14,4 @@ pub use changes::{put_in_bits, put_in_table};
 pub use numbers::Numbers;
 pub use plain::{member, set_of_numbers, tuple_of_handles};
 pub use sets::{handle, handles, has, remote_set, sparse_set};
-pub use std::alloc::AllocError as Memory;
 pub use walk::next_in;

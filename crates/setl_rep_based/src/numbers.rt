@@ -4,10 +4,9 @@ ghost use Rattle.std.specs.Prelude.{◌≡◌, IfOk};
 ghost use Rattle.std.specs.FinSet as set;
 ghost use Rattle.setl_rep_based.specs.Numbers.{numbers_in};
 
-use crate::Memory;
 use setl_remote::Bits;
 use setl_sparse::SparseSet;
-use std::alloc::Global;
+use std::alloc::{AllocError, Global};
 
 /// The numbers of the blocks of a set's members: those of a remote set, or those of a sparse one. Contracts see it as
 /// `numbers_in`, a finite set.
@@ -29,7 +28,7 @@ impl Numbers<'_> {
     }
 
     /// The numbers, rising. An error is want of memory.
-    pub fn list(self, alloc: Global) -> Result<Vec<u64>, Memory>
+    pub fn list(self, alloc: Global) -> Result<Vec<u64>, AllocError>
         ensures { IfOk result (λ list. set.from_list list.items ≡ numbers_in self.entry) }
     {
         match self {

@@ -12,16 +12,19 @@ ghost use Rattle.setl_base.specs.Base.{value_of};
 ghost use Rattle.setl_rep_forms.specs.Stands.{members_at, parts_at, value_at};
 ghost use Rattle.setl_rep_based.specs.Numbers.{numbers_in};
 
-use crate::Memory;
 use crate::numbers::Numbers;
 use setl_base::{Base, Elt};
 use setl_map::gathered;
 use setl_rep_forms::laws;
 use setl_value::{SetBody, TupleBody, Value};
-use std::alloc::Global;
+use std::alloc::{AllocError, Global};
 
 /// The set of the members at these numbers, which is at most 500 deep. An error is want of memory.
-pub fn set_of_numbers(alloc: Global, base: &Base, numbers: Numbers<'_>) -> Result<SetBody, Memory>
+pub fn set_of_numbers(
+    alloc: Global,
+    base: &Base,
+    numbers: Numbers<'_>,
+) -> Result<SetBody, AllocError>
     requires { depth (set_of (members_at base.now (numbers_in numbers))) ≤ 500 }
     ensures { IfOk result (λ s. Members s ≡ members_at base.now (numbers_in numbers.entry)) }
 {
@@ -30,7 +33,7 @@ pub fn set_of_numbers(alloc: Global, base: &Base, numbers: Numbers<'_>) -> Resul
 }
 
 // The set of the members at these numbers.
-fn set_at(alloc: Global, base: &Base, numbers: &[u64]) -> Result<SetBody, Memory>
+fn set_at(alloc: Global, base: &Base, numbers: &[u64]) -> Result<SetBody, AllocError>
     requires { depth (set_of (members_at base.now (set.from_list numbers.now))) ≤ 500 }
     ensures { IfOk result (λ s. Members s ≡ members_at base.now (set.from_list numbers.now)) }
 {
@@ -43,7 +46,7 @@ fn set_at(alloc: Global, base: &Base, numbers: &[u64]) -> Result<SetBody, Memory
 }
 
 // Copies of the members with these numbers.
-fn values_at(alloc: Global, base: &Base, numbers: &[u64]) -> Result<Vec<Value>, Memory>
+fn values_at(alloc: Global, base: &Base, numbers: &[u64]) -> Result<Vec<Value>, AllocError>
     ensures { IfOk result (λ vs. map datum vs.items ≡ filter_map (value_at base.now) numbers.now) }
 {
     let mut values = Vec::with_capacity(alloc, numbers.len())?;
@@ -54,7 +57,7 @@ fn values_at(alloc: Global, base: &Base, numbers: &[u64]) -> Result<Vec<Value>, 
 }
 
 // Puts a copy of the member of this number at the end.
-fn push_member(base: &Base, n: u64, values: &mut Vec<Value>) -> Result<(), Memory>
+fn push_member(base: &Base, n: u64, values: &mut Vec<Value>) -> Result<(), AllocError>
     ensures { OnOk result (map datum values.new.items ≡ map datum values.old.items ++ option_to_list (value_at base.now n)) }
 {
     if let Some(v) = member(base, n) {
@@ -76,7 +79,7 @@ pub fn tuple_of_handles(
     alloc: Global,
     base: &Base,
     list: &[Option<Elt>],
-) -> Result<TupleBody, Memory>
+) -> Result<TupleBody, AllocError>
     requires trimmed { IsTrimmed (parts_at base.now list.now) }
     requires shallow { depth (tuple_of (parts_at base.now list.now)) ≤ 500 }
     ensures { IfOk result (λ t. t ≡ parts_at base.now list.now) }
@@ -90,7 +93,7 @@ pub fn tuple_of_handles(
 }
 
 // A copy of the member with this handle, or `om` where there is none.
-fn part_of(base: &Base, e: &Option<Elt>) -> Result<Option<Value>, Memory>
+fn part_of(base: &Base, e: &Option<Elt>) -> Result<Option<Value>, AllocError>
     ensures { IfOk result (λ p. part p ≡ option_and_then (value_of base.now) e.now) }
 {
     match e {
@@ -100,7 +103,7 @@ fn part_of(base: &Base, e: &Option<Elt>) -> Result<Option<Value>, Memory>
 }
 
 // A copy of what is lent.
-fn copied(v: Option<&Value>) -> Result<Option<Value>, Memory>
+fn copied(v: Option<&Value>) -> Result<Option<Value>, AllocError>
     ensures { IfOk result (λ p. part p ≡ option_map (λ x. datum x.now) v.entry) }
 {
     match v {

@@ -10,14 +10,13 @@ ghost use Rattle.setl_rep_forms.specs.Stands.{members_at, parts_at, AreHandles, 
 ghost use Rattle.setl_rep_based.specs.Found.{AreFound, ArePartsFound};
 ghost use Rattle.setl_rep_based.specs.Numbers.{numbers_in};
 
-use crate::Memory;
 use crate::numbers::Numbers;
 use setl_base::{Base, Elt};
 use setl_remote::Bits;
 use setl_rep_forms::laws;
 use setl_sparse::SparseSet;
 use setl_value::{SetBody, TupleBody, Value};
-use std::alloc::Global;
+use std::alloc::{AllocError, Global};
 
 /// Whether a value is in the set of the members at these numbers. It takes no memory.
 pub fn has(base: &Base, numbers: Numbers<'_>, v: &Value) -> bool
@@ -32,7 +31,7 @@ pub fn has(base: &Base, numbers: Numbers<'_>, v: &Value) -> bool
 }
 
 /// The numbers of the members of a set, which are members of the base. An error is want of memory.
-pub fn remote_set(alloc: Global, base: &Base, s: &SetBody) -> Result<Bits, Memory>
+pub fn remote_set(alloc: Global, base: &Base, s: &SetBody) -> Result<Bits, AllocError>
     requires { AreFound base.now (Members s.now) }
     ensures members { IfOk result (λ bits. members_at base.now bits ≡ Members s.now) }
     ensures living { IfOk result (λ bits. AreLiving base.now bits) }
@@ -49,7 +48,7 @@ pub fn remote_set(alloc: Global, base: &Base, s: &SetBody) -> Result<Bits, Memor
 }
 
 /// The numbers of the members of a set, which are members of the base. An error is want of memory.
-pub fn sparse_set(alloc: Global, base: &Base, s: &SetBody) -> Result<SparseSet, Memory>
+pub fn sparse_set(alloc: Global, base: &Base, s: &SetBody) -> Result<SparseSet, AllocError>
     requires { AreFound base.now (Members s.now) }
     ensures members { IfOk result (λ numbers. members_at base.now numbers ≡ Members s.now) }
     ensures living { IfOk result (λ numbers. AreLiving base.now numbers) }
@@ -74,7 +73,7 @@ pub fn handle(base: &Base, v: &Value) -> Elt
 }
 
 /// The handles of the components of a tuple, which are members of the base. An error is want of memory.
-pub fn handles(alloc: Global, base: &Base, t: &TupleBody) -> Result<Vec<Option<Elt>>, Memory>
+pub fn handles(alloc: Global, base: &Base, t: &TupleBody) -> Result<Vec<Option<Elt>>, AllocError>
     requires { ArePartsFound base.now t.now }
     ensures parts { IfOk result (λ es. parts_at base.now es.items ≡ t.now) }
     ensures living { IfOk result (λ es. AreHandles base.now es.items) }

@@ -7,10 +7,10 @@ ghost use Rattle.setl_rep_bases.specs.Marks.{marks_of, back_all, AreWithin, Have
 ghost use Rattle.setl_rep_bases.specs.Bases.{base_at, instance_at, is_gone, is_there, IsThere, main_bases, named, with_added, with_cut, with_entered, with_gone, with_undone, without, without_gone};
 
 use crate::tables::{self, Table};
-use crate::{BaseId, BaseMarks, Memory};
+use crate::{BaseId, BaseMarks};
 use setl_base::{Base, BaseMark, Elt};
 use setl_value::Value;
-use std::alloc::Global;
+use std::alloc::{AllocError, Global};
 use std::collections::BTreeMap;
 use std::marker::Model;
 
@@ -35,7 +35,7 @@ impl Model for Bases {
 
 impl Bases {
     /// So many bases of the main program, without members. An error is want of memory.
-    pub fn new(alloc: Global, count: u32) -> Result<Bases, Memory>
+    pub fn new(alloc: Global, count: u32) -> Result<Bases, AllocError>
         ensures { IfOk result (λ bs. bs ≡ main_bases count) }
     {
         let mut instances = BTreeMap::new(alloc);
@@ -86,7 +86,7 @@ impl Bases {
     /// Enters a value into an instance and gives its handle.
     ///
     /// The error is want of memory, and then the bases are as before.
-    pub fn enter(&mut self, i: BaseId, v: Value) -> Result<Elt, Memory>
+    pub fn enter(&mut self, i: BaseId, v: Value) -> Result<Elt, AllocError>
         requires { IsThere self.old i }
         ensures entered { OnOk result (self.new ≡ with_entered self.old i (datum v)) }
         ensures handle { IfOk result (λ e. find (base_at self.new i) (datum v) ≡ Some e) }
@@ -117,7 +117,7 @@ impl Bases {
     /// Adds an instance without members.
     ///
     /// The error is want of memory, and then the bases are as before.
-    pub fn add(&mut self, alloc: Global, i: BaseId) -> Result<(), Memory>
+    pub fn add(&mut self, alloc: Global, i: BaseId) -> Result<(), AllocError>
         requires { instance_at self.old i ≡ None }
         ensures added { OnOk result (self.new ≡ with_added self.old i) }
         ensures refused { OnErr result (self.new ≡ self.old) }
@@ -153,7 +153,7 @@ impl Bases {
     }
 
     /// What each instance has now: how many members, and whether it is gone. An error is want of memory.
-    pub fn marks(&self, alloc: Global) -> Result<BaseMarks, Memory>
+    pub fn marks(&self, alloc: Global) -> Result<BaseMarks, AllocError>
         ensures { IfOk result (λ ms. ms ≡ marks_of self.now) }
     {
         let table = tables::marks(alloc, &self.instances)?;

@@ -16,7 +16,6 @@ mod tables;
 
 pub use bases::Bases;
 pub use marks::{BaseMarks, Mark};
-pub use std::alloc::AllocError as Memory;
 
 /// The name of an instance of a base: the number of the base, and that of the activation, 0 for the main program.
 #[derive(Clone, Copy, Debug, PartialEq, Eq, PartialOrd, Ord)]

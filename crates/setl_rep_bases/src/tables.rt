@@ -9,11 +9,11 @@ ghost use Rattle.setl_rep_bases.specs.Bases.{fresh};
 ghost use Rattle.setl_rep_bases.specs.Marks.{mark_of, as_cut};
 ghost use Rattle.setl_rep_bases.specs.Tables.{found, base_in, Alters, Puts, Stays, with_value, cut_to, undone_to, gone_as, not_gone, marked_at, Brings, MayBeCut};
 
+use crate::BaseId;
 use crate::marks::{Mark, MarkTable};
-use crate::{BaseId, Memory};
 use setl_base::{Base, BaseMark, Elt};
 use setl_value::Value;
-use std::alloc::Global;
+use std::alloc::{AllocError, Global};
 use std::collections::BTreeMap;
 
 /// An instance of a base, which may be gone.
@@ -34,7 +34,7 @@ pub(crate) fn base_at(table: &Table, i: BaseId) -> &Base
 }
 
 /// Enters a value into an instance and gives its handle. Where memory is refused, the table is as before.
-pub(crate) fn enter(table: &mut Table, i: BaseId, v: Value) -> Result<Elt, Memory>
+pub(crate) fn enter(table: &mut Table, i: BaseId, v: Value) -> Result<Elt, AllocError>
     requires { IsSome (found table.old.entries i) }
     ensures entered { OnOk result (Alters (with_value (datum v)) i table.old.entries table.new.entries) }
     ensures handle { IfOk result (λ e. find (base_in (found table.new.entries i)) (datum v) ≡ Some e) }
@@ -82,7 +82,7 @@ pub(crate) fn drop_gone(table: &mut Table)
 }
 
 /// Puts in an instance without members. Where memory is refused, the table is as before.
-pub(crate) fn add(alloc: Global, table: &mut Table, i: BaseId) -> Result<(), Memory>
+pub(crate) fn add(alloc: Global, table: &mut Table, i: BaseId) -> Result<(), AllocError>
     ensures added { OnOk result (Puts i (Some fresh) table.old.entries table.new.entries) }
     ensures refused { OnErr result (Stays table.old.entries table.new.entries) }
 {
@@ -99,7 +99,7 @@ pub(crate) fn remove(table: &mut Table, i: BaseId)
 }
 
 /// What each instance has. An error is want of memory.
-pub(crate) fn marks(alloc: Global, table: &Table) -> Result<MarkTable, Memory>
+pub(crate) fn marks(alloc: Global, table: &Table) -> Result<MarkTable, AllocError>
     ensures { IfOk result (λ ms. (i : BaseId) → marked_at ms.entries i ≡ option_map mark_of (found table.now.entries i)) }
 {
     table

@@ -19,7 +19,6 @@ ghost use Rattle.setl_rep_building.specs.Contents.{layout, place, IsContentOf};
 ghost use Rattle.setl_rep_building.specs.HasForm.{base_of, keeps_sets, place_of, table_of, HasForm, IsElementOf, IsMapMode};
 ghost use Rattle.setl_rep_building.specs.Places.{HasBases, PlacesAreFound};
 
-use crate::Memory;
 use crate::table::{Lying, Table};
 use setl_map::{domain, image, images};
 use setl_modes::{Form, Mode};
@@ -41,7 +40,7 @@ pub fn in_form(
     v: &Value,
     bases: &Bases,
     instance: u64,
-) -> Result<Held, Memory>
+) -> Result<Held, AllocError>
     requires fits { datum_fits (mode_of mode.now) (datum v.now) ≡ true }
     requires found { PlacesAreFound bases.now (named bases.now instance) (mode_of mode.now) (datum v.now) }
     requires there { HasBases bases.now (named bases.now instance) (mode_of mode.now) }
@@ -122,7 +121,7 @@ fn set_in_form(
     s: &SetBody,
     bases: &Bases,
     instance: u64,
-) -> Result<Held, Memory>
+) -> Result<Held, AllocError>
     requires found { PlacesAreFound bases.now (named bases.now instance) (Sets f (mode_of m.now)) (set_of (Members s.now)) }
     requires there { HasBases bases.now (named bases.now instance) (mode_of m.now) }
     ensures over { IfOk result (λ h. IsOver bases.now (form h)) }
@@ -150,7 +149,7 @@ fn tuple_in_form(
     t: &TupleBody,
     bases: &Bases,
     instance: u64,
-) -> Result<Held, Memory>
+) -> Result<Held, AllocError>
     requires found { PlacesAreFound bases.now (named bases.now instance) (Tuples (mode_of m.now)) (tuple_of t.now) }
     requires there { HasBases bases.now (named bases.now instance) (mode_of m.now) }
     ensures over { IfOk result (λ h. IsOver bases.now (form h)) }
@@ -176,7 +175,7 @@ fn map_in_form(
     s: &SetBody,
     bases: &Bases,
     instance: u64,
-) -> Result<Held, Memory>
+) -> Result<Held, AllocError>
     requires map { IsMapMode (mode_of mode.now) }
     requires fits { datum_fits (mode_of mode.now) (set_of (Members s.now)) ≡ true }
     requires found { PlacesAreFound bases.now (named bases.now instance) (mode_of mode.now) (set_of (Members s.now)) }
@@ -201,7 +200,7 @@ fn table_in_form(
     s: &SetBody,
     bases: &Bases,
     instance: u64,
-) -> Result<Held, Memory>
+) -> Result<Held, AllocError>
     requires table { table_of (mode_of mode.now) ≡ Some (layout lying, b) }
     requires fits { datum_fits (mode_of mode.now) (set_of (Members s.now)) ≡ true }
     requires found { PlacesAreFound bases.now (named bases.now instance) (mode_of mode.now) (set_of (Members s.now)) }
@@ -236,7 +235,7 @@ fn content_in_form(
     s: &SetBody,
     bases: &Bases,
     instance: u64,
-) -> Result<Held, Memory>
+) -> Result<Held, AllocError>
     requires map { IsMapMode (mode_of mode.now) }
     requires point { has_datum (datum x.now) (domain_of (Members s.now)) ≡ true }
     requires fits { datum_fits (mode_of mode.now) (set_of (Members s.now)) ≡ true }
@@ -261,7 +260,7 @@ fn content_in_form(
 }
 
 // The points of a map. An error is want of memory.
-fn points(alloc: Global, s: &SetBody) -> Result<SetBody, Memory>
+fn points(alloc: Global, s: &SetBody) -> Result<SetBody, AllocError>
     requires { is_map (Members s.now) ≡ true }
     ensures { IfOk result (λ xs. Members xs ≡ domain_of (Members s.now)) }
 {
@@ -272,7 +271,7 @@ fn points(alloc: Global, s: &SetBody) -> Result<SetBody, Memory>
 }
 
 // The one image of a point of a map. An error is want of memory.
-fn the_image(s: &SetBody, x: &Value) -> Result<Value, Memory>
+fn the_image(s: &SetBody, x: &Value) -> Result<Value, AllocError>
     requires { IsSome (image (datum x.now) (Members s.now)) }
     ensures { IfOk result (λ y. image (datum x.now) (Members s.now) ≡ Some (datum y)) }
 {
@@ -283,7 +282,7 @@ fn the_image(s: &SetBody, x: &Value) -> Result<Value, Memory>
 }
 
 // The set of the images of a point of a map. An error is want of memory.
-fn all_images(alloc: Global, s: &SetBody, x: &Value) -> Result<SetBody, Memory>
+fn all_images(alloc: Global, s: &SetBody, x: &Value) -> Result<SetBody, AllocError>
     requires { is_map (Members s.now) ≡ true }
     ensures images { IfOk result (λ ys. Members ys ≡ images (datum x.now) (Members s.now)) }
     ensures rising { OnOk result (IsRising (images (datum x.now) (Members s.now))) }

@@ -5,4 +5,3 @@ mod build;
 mod table;
 
 pub use build::in_form;
-pub use std::alloc::AllocError as Memory;

@@ -6,12 +6,11 @@ ghost use Rattle.setl_rep_forms.specs.FormOf.{form};
 ghost use Rattle.setl_rep_tables.specs.Tables.{IsKeyed};
 ghost use Rattle.setl_rep_building.specs.Contents.{entries_in, layout, table_layout, PutsEntry};
 
-use crate::Memory;
 use setl_remote::Slots;
 use setl_rep_bases::BaseId;
 use setl_rep_forms::Held;
 use setl_sparse::SparseMap;
-use std::alloc::Global;
+use std::alloc::{AllocError, Global};
 use std::rc::Rc;
 
 /// Where the numbers of a set or map lie.
@@ -30,7 +29,7 @@ pub(crate) enum Table {
 
 impl Table {
     /// No contents. An error is want of memory.
-    pub fn new(alloc: Global, lying: Lying) -> Result<Table, Memory>
+    pub fn new(alloc: Global, lying: Lying) -> Result<Table, AllocError>
         ensures empty { IfOk result (λ t. entries_in t ≡ no_entry) }
         ensures layout { IfOk result (λ t. table_layout t ≡ layout lying) }
     {
@@ -41,7 +40,7 @@ impl Table {
     }
 
     /// Gives a number its content. An error is want of memory.
-    pub fn put(&mut self, n: u64, content: Held) -> Result<(), Memory>
+    pub fn put(&mut self, n: u64, content: Held) -> Result<(), AllocError>
         ensures put { OnOk result (PutsEntry n (form content) (entries_in self.old) (entries_in self.new)) }
         ensures layout { table_layout self.new ≡ table_layout self.old }
     {
@@ -68,7 +67,7 @@ impl Table {
     }
 
     /// The map on a base, where `many` says that a content is the set of images. An error is want of memory.
-    pub fn held(self, alloc: Global, base: BaseId, many: bool) -> Result<Held, Memory>
+    pub fn held(self, alloc: Global, base: BaseId, many: bool) -> Result<Held, AllocError>
         ensures { IfOk result (λ h. form h ≡ table (table_layout self) base many (entries_in self)) }
     {
         match self {

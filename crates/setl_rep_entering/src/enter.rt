@@ -11,13 +11,12 @@ ghost use Rattle.setl_rep_bases.specs.Bases.{BasesState};
 ghost use Rattle.setl_rep_entering.specs.Entering.{is_named, AreLengthened, BasesAreThere};
 ghost use Rattle.setl_rep_entering.specs.code.Growing.{all_placed, all_undone, is_marked, AreGrown, AreMarked, AreMarks, AreMarksOf, ArePlacesThere, ChangeWithin};
 
-use crate::Memory;
 use crate::places::{Activation, Place, new_places};
 use setl_base::BaseMark;
 use setl_modes::Mode;
 use setl_rep_bases::{BaseId, Bases};
 use setl_value::Value;
-use std::alloc::Global;
+use std::alloc::{AllocError, Global};
 
 /// How many members an instance had.
 #[derive(Clone, Copy)]
@@ -36,7 +35,7 @@ pub fn enter_places(
     v: &Value,
     instance: u64,
     bases: &mut Bases,
-) -> Result<(), Memory>
+) -> Result<(), AllocError>
     requires fits { datum_fits (mode_of mode.now) (datum v.now) ≡ true }
     requires there { BasesAreThere bases.old instance (mode_of mode.now) }
     ensures lengthened { OnOk result (AreLengthened (mode_of mode.now) (datum v.now) instance bases.old bases.new) }
@@ -69,7 +68,7 @@ pub fn base_marks(
     mode: &Mode,
     instance: u64,
     bases: &Bases,
-) -> Result<Vec<Mark>, Memory>
+) -> Result<Vec<Mark>, AllocError>
     requires { BasesAreThere bases.now instance (mode_of mode.now) }
     ensures { IfOk result (λ ms. AreMarksOf bases.now instance (mode_of mode.now) ms.items) }
 {
@@ -95,7 +94,7 @@ pub fn take_back(marks: Vec<Mark>, bases: &mut Bases)
 
 // Puts the mark of each base that a mode names at the end.
 #[tactic(auto, using(crate::proofs::Naming::marked_both))]
-fn mark_bases(a: &Activation<'_>, mode: &Mode, marks: &mut Vec<Mark>) -> Result<(), Memory>
+fn mark_bases(a: &Activation<'_>, mode: &Mode, marks: &mut Vec<Mark>) -> Result<(), AllocError>
     requires there { BasesAreThere a.now.bases.now a.now.instance (mode_of mode.now) }
     requires marks { AreMarks a.now.bases.now marks.old.items }
     ensures marks { OnOk result (AreMarks a.now.bases.now marks.new.items) }
@@ -124,7 +123,7 @@ fn mark_bases(a: &Activation<'_>, mode: &Mode, marks: &mut Vec<Mark>) -> Result<
 }
 
 // Enters values into their bases. Where memory is refused, each base is cut to its mark.
-fn enter_or_undo(places: Vec<Place>, marks: Vec<Mark>, bases: &mut Bases) -> Result<(), Memory>
+fn enter_or_undo(places: Vec<Place>, marks: Vec<Mark>, bases: &mut Bases) -> Result<(), AllocError>
     requires there { ArePlacesThere bases.old places.items }
     requires marks { AreMarks bases.old marks.items }
     requires marked { AreMarked marks.items places.items }
@@ -142,7 +141,7 @@ fn enter_or_undo(places: Vec<Place>, marks: Vec<Mark>, bases: &mut Bases) -> Res
 }
 
 // Enters values into their bases, one after the other. Where memory is refused, some may have been entered.
-fn enter_each(places: Vec<Place>, bases: &mut Bases) -> Result<(), Memory>
+fn enter_each(places: Vec<Place>, bases: &mut Bases) -> Result<(), AllocError>
     requires { ArePlacesThere bases.old places.items }
     ensures entered { OnOk result (bases.new ≡ all_placed bases.old places.items) }
     ensures grown { AreGrown bases.old bases.new }

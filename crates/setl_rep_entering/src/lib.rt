@@ -11,5 +11,4 @@ mod there;
 
 pub use enter::{Mark, base_marks, enter_places, take_back};
 pub use places::are_entered;
-pub use std::alloc::AllocError as Memory;
 pub use there::bases_are_there;

@@ -16,12 +16,11 @@ ghost use Rattle.setl_rep_entering.specs.Entering.{BasesAreThere};
 ghost use Rattle.setl_rep_entering.specs.Laws.{PlacesAreFound};
 ghost use Rattle.setl_rep_entering.specs.code.Finding.{Gains, HaveSamePlaces, at_firsts, at_images, at_map, at_neighbour, at_seconds, has_places, is_at_point, place_cmp};
 
-use crate::Memory;
 use setl_map::{images, parts};
 use setl_modes::Mode;
 use setl_rep_bases::{BaseId, Bases};
 use setl_value::{SetBody, TupleBody, Value};
-use std::alloc::Global;
+use std::alloc::{AllocError, Global};
 
 /// A value at a place, with the instance of its base.
 #[derive(PartialEq, Eq, PartialOrd, Ord, Drop)]
@@ -60,7 +59,7 @@ fn find_places(
     mode: &Mode,
     v: &Value,
     found: &mut Vec<Place>,
-) -> Result<(), Memory>
+) -> Result<(), AllocError>
     requires { BasesAreThere a.now.bases.now a.now.instance (mode_of mode.now) }
     ensures { OnOk result (Gains a.now.bases.now a.now.instance (λ b. elements_at b (mode_of mode.now) (datum v.now)) found.old.items found.new.items) }
 {
@@ -79,7 +78,7 @@ fn find_places(
 }
 
 // Puts a value at a place of the base `b` at the end, unless it is a member.
-fn push_new(a: &Activation<'_>, b: u32, v: &Value, found: &mut Vec<Place>) -> Result<(), Memory>
+fn push_new(a: &Activation<'_>, b: u32, v: &Value, found: &mut Vec<Place>) -> Result<(), AllocError>
     requires { IsThere a.now.bases.now (named a.now.bases.now a.now.instance b) }
     ensures { OnOk result (Gains a.now.bases.now a.now.instance (λ c. cond (b == c) (datum v.now ∷ []) []) found.old.items found.new.items) }
 {
@@ -99,7 +98,7 @@ fn in_members(
     mode: &Mode,
     s: &SetBody,
     found: &mut Vec<Place>,
-) -> Result<(), Memory>
+) -> Result<(), AllocError>
     requires { BasesAreThere a.now.bases.now a.now.instance (mode_of mode.now) }
     ensures { OnOk result (Gains a.now.bases.now a.now.instance (λ b. flat_map (elements_at b (mode_of mode.now)) (Members s.now)) found.old.items found.new.items) }
 {
@@ -116,7 +115,7 @@ fn in_parts(
     mode: &Mode,
     t: &TupleBody,
     found: &mut Vec<Place>,
-) -> Result<(), Memory>
+) -> Result<(), AllocError>
     requires { BasesAreThere a.now.bases.now a.now.instance (mode_of mode.now) }
     ensures { OnOk result (Gains a.now.bases.now a.now.instance (λ b. flat_map (at_part (elements_at b (mode_of mode.now))) t.now) found.old.items found.new.items) }
 {
@@ -134,7 +133,7 @@ fn in_part(
     t: &TupleBody,
     i: usize,
     found: &mut Vec<Place>,
-) -> Result<(), Memory>
+) -> Result<(), AllocError>
     requires { BasesAreThere a.now.bases.now a.now.instance (mode_of mode.now) }
     ensures { OnOk result (Gains a.now.bases.now a.now.instance (λ b. at_part (elements_at b (mode_of mode.now)) (unwrap_or (slice_get t.now i) None)) found.old.items found.new.items) }
 {
@@ -146,7 +145,12 @@ fn in_part(
 
 // Those of a map.
 #[cycle(finding)]
-fn in_map(a: &Activation<'_>, mode: &Mode, v: &Value, found: &mut Vec<Place>) -> Result<(), Memory>
+fn in_map(
+    a: &Activation<'_>,
+    mode: &Mode,
+    v: &Value,
+    found: &mut Vec<Place>,
+) -> Result<(), AllocError>
     requires { BasesAreThere a.now.bases.now a.now.instance (mode_of mode.now) }
     ensures { OnOk result (Gains a.now.bases.now a.now.instance (λ b. at_map b (mode_of mode.now) (datum v.now)) found.old.items found.new.items) }
 {
@@ -163,7 +167,7 @@ fn in_pairs(
     mode: &Mode,
     f: &SetBody,
     found: &mut Vec<Place>,
-) -> Result<(), Memory>
+) -> Result<(), AllocError>
     requires { BasesAreThere a.now.bases.now a.now.instance (mode_of mode.now) }
     ensures { OnOk result (Gains a.now.bases.now a.now.instance (λ b. at_firsts b (mode_of mode.now) (Members f.now) ++ at_seconds b (mode_of mode.now) (Members f.now)) found.old.items found.new.items) }
 {
@@ -179,7 +183,7 @@ fn in_firsts(
     mode: &Mode,
     f: &SetBody,
     found: &mut Vec<Place>,
-) -> Result<(), Memory>
+) -> Result<(), AllocError>
     requires { BasesAreThere a.now.bases.now a.now.instance (mode_of mode.now) }
     ensures { OnOk result (Gains a.now.bases.now a.now.instance (λ b. at_firsts b (mode_of mode.now) (Members f.now)) found.old.items found.new.items) }
 {
@@ -197,7 +201,7 @@ fn in_seconds(
     mode: &Mode,
     f: &SetBody,
     found: &mut Vec<Place>,
-) -> Result<(), Memory>
+) -> Result<(), AllocError>
     requires { BasesAreThere a.now.bases.now a.now.instance (mode_of mode.now) }
     ensures { OnOk result (Gains a.now.bases.now a.now.instance (λ b. at_seconds b (mode_of mode.now) (Members f.now)) found.old.items found.new.items) }
 {
@@ -216,7 +220,7 @@ fn in_sides(
     f: &SetBody,
     first: bool,
     found: &mut Vec<Place>,
-) -> Result<(), Memory>
+) -> Result<(), AllocError>
     requires { BasesAreThere a.now.bases.now a.now.instance (mode_of mode.now) }
     ensures { OnOk result (Gains a.now.bases.now a.now.instance (λ b. flat_map (λ p. at_part (elements_at b (mode_of mode.now)) (part_at first p)) (Members f.now)) found.old.items found.new.items) }
 {
@@ -234,7 +238,7 @@ fn in_side(
     p: &Value,
     first: bool,
     found: &mut Vec<Place>,
-) -> Result<(), Memory>
+) -> Result<(), AllocError>
     requires { BasesAreThere a.now.bases.now a.now.instance (mode_of mode.now) }
     ensures { OnOk result (Gains a.now.bases.now a.now.instance (λ b. at_part (elements_at b (mode_of mode.now)) (part_at first (datum p.now))) found.old.items found.new.items) }
 {
@@ -259,7 +263,7 @@ fn in_images(
     mode: &Mode,
     f: &SetBody,
     found: &mut Vec<Place>,
-) -> Result<(), Memory>
+) -> Result<(), AllocError>
     requires { BasesAreThere a.now.bases.now a.now.instance (mode_of mode.now) }
     ensures { OnOk result (Gains a.now.bases.now a.now.instance (λ b. flat_map (λ p. at_images (elements_at b (mode_of mode.now)) (Members f.now) (pair_parts p)) (Members f.now)) found.old.items found.new.items) }
 {
@@ -280,7 +284,7 @@ fn in_next_images(
     before: Option<&Value>,
     p: &Value,
     found: &mut Vec<Place>,
-) -> Result<(), Memory>
+) -> Result<(), AllocError>
     requires there { BasesAreThere a.now.bases.now a.now.instance (mode_of mode.now) }
     requires before { Gains a.now.bases.now a.now.instance (λ b. at_neighbour (elements_at b (mode_of mode.now)) (Members f.now) (lent before)) found.old.items found.old.items }
     ensures { OnOk result (Gains a.now.bases.now a.now.instance (λ b. at_images (elements_at b (mode_of mode.now)) (Members f.now) (pair_parts (datum p.now))) found.old.items found.new.items) }
@@ -315,13 +319,13 @@ fn in_images_of(
     f: &SetBody,
     x: &Value,
     found: &mut Vec<Place>,
-) -> Result<(), Memory>
+) -> Result<(), AllocError>
     requires { BasesAreThere a.now.bases.now a.now.instance (mode_of mode.now) }
     ensures { OnOk result (Gains a.now.bases.now a.now.instance (λ b. elements_at b (mode_of mode.now) (set_of (images (datum x.now) (Members f.now)))) found.old.items found.new.items) }
 {
     match images(a.alloc, f, x) {
         Ok(s) => find_places(a, mode, &Value::Set(s), found),
-        Err(_) => Err(Memory),
+        Err(_) => Err(AllocError),
     }
 }
 
@@ -334,7 +338,7 @@ pub fn are_entered(
     v: &Value,
     instance: u64,
     bases: &Bases,
-) -> Result<bool, Memory>
+) -> Result<bool, AllocError>
     requires { BasesAreThere bases.now instance (mode_of mode.now) }
     ensures { IfOk result (λ t. (t ≡ true) ↔ PlacesAreFound bases.now instance (mode_of mode.now) (datum v.now)) }
 {
@@ -351,7 +355,11 @@ pub fn are_entered(
 
 /// The values at the places of a value that aren't members of their bases yet: by instances, and in each in canonical
 /// order.
-pub(crate) fn new_places(a: &Activation<'_>, mode: &Mode, v: &Value) -> Result<Vec<Place>, Memory>
+pub(crate) fn new_places(
+    a: &Activation<'_>,
+    mode: &Mode,
+    v: &Value,
+) -> Result<Vec<Place>, AllocError>
     requires { BasesAreThere a.now.bases.now a.now.instance (mode_of mode.now) }
     ensures found { IfOk result (λ ps. Gains a.now.bases.now a.now.instance (λ b. elements_at b (mode_of mode.now) (datum v.now)) [] ps.items) }
     ensures rising { IfOk result (λ ps. IsStrictlySortedBy place_cmp ps.items) }
@@ -362,7 +370,7 @@ pub(crate) fn new_places(a: &Activation<'_>, mode: &Mode, v: &Value) -> Result<V
 }
 
 // These places, each once: by instances, and in each by value.
-fn sorted(places: Vec<Place>) -> Result<Vec<Place>, Memory>
+fn sorted(places: Vec<Place>) -> Result<Vec<Place>, AllocError>
     ensures same { IfOk result (λ ps. HaveSamePlaces places.items ps.items) }
     ensures rising { IfOk result (λ ps. IsStrictlySortedBy place_cmp ps.items) }
 {

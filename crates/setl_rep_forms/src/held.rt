@@ -3,12 +3,12 @@
 ghost use Rattle.std.specs.Prelude.{◌≡◌, IfOk};
 ghost use Rattle.setl_rep_forms.specs.FormOf.{form};
 
-use crate::Memory;
 use setl_base::Elt;
 use setl_remote::{Bits, Slots};
 use setl_rep_bases::BaseId;
 use setl_sparse::{SparseMap, SparseSet};
 use setl_value::Value;
+use std::alloc::AllocError;
 use std::rc::Rc;
 
 /// A value, or `om`, in a form over bases. Each form but `Om` and `Plain` names the instance of a base, and the truth value of
@@ -28,7 +28,7 @@ pub enum Held {
 
 impl Held {
     /// The same value in the same form, which shares its tables.
-    pub fn copy(&self) -> Result<Held, Memory>
+    pub fn copy(&self) -> Result<Held, AllocError>
         ensures same { IfOk result (λ r. form r ≡ form self.now) }
     {
         match self {
@@ -51,7 +51,7 @@ impl Clone for Held {
 
     ghost is_clone = { λ h copy. form copy ≡ form h };
 
-    fn clone(&self) -> Result<Held, Memory> {
+    fn clone(&self) -> Result<Held, AllocError> {
         self.copy()
     }
 }

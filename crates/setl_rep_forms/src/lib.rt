@@ -5,4 +5,3 @@ mod held;
 pub mod laws;
 
 pub use held::Held;
-pub use std::alloc::AllocError as Memory;

@@ -10,14 +10,13 @@ ghost use Rattle.setl_rep_maps.specs.Contents.{map_pairs, table_of};
 ghost use Rattle.setl_rep_plain.specs.Standing.{IsHeldOver};
 ghost use Rattle.setl_rep_tables.specs.Tables.{images_of};
 
-use crate::Memory;
 use setl_base::Base;
 use setl_rep_bases::{BaseId, Bases};
 use setl_rep_forms::Held;
 use setl_rep_maps::{content, learn};
 use setl_rep_plain::plain;
 use setl_value::Value;
-use std::alloc::Global;
+use std::alloc::{AllocError, Global};
 
 /// The value that the content of a point stands for, which is its image or the set of its images; None where it has no content.
 ///
@@ -29,7 +28,7 @@ pub(crate) fn content_value(
     many: bool,
     x: &Value,
     bases: &Bases,
-) -> Result<Option<Value>, Memory>
+) -> Result<Option<Value>, AllocError>
     requires held { IsHeldOver bases.now f.now }
     requires table { table_of (form f.now) ≡ Some (b, many) }
     ensures { IfOk result (λ v. images (datum x.now) (map_pairs bases.now (form f.now)) ≡ images_of many (part v)) }

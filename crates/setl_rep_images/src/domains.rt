@@ -12,13 +12,12 @@ ghost use Rattle.setl_rep_forms.specs.FormOf.{form};
 ghost use Rattle.setl_rep_forms.specs.Stands.{stands, IsOver};
 ghost use Rattle.setl_rep_maps.specs.Contents.{table_of, IsDomain};
 
-use crate::Memory;
 use setl_remote::{Bits, Slots};
 use setl_rep_bases::Bases;
 use setl_rep_forms::Held;
 use setl_rep_maps::learn;
 use setl_sparse::{SparseMap, SparseSet};
-use std::alloc::Global;
+use std::alloc::{AllocError, Global};
 use std::rc::Rc;
 
 /// `domain f`: the set of the points of a map that is held as a table, as their numbers on the base of the map and in its
@@ -26,7 +25,7 @@ use std::rc::Rc;
 ///
 /// An error is want of memory. The cost is near linear in the number of points, for a remote map in the greatest number that
 /// had a content.
-pub fn domain(alloc: Global, f: &Held, bases: &Bases) -> Result<Option<Held>, Memory>
+pub fn domain(alloc: Global, f: &Held, bases: &Bases) -> Result<Option<Held>, AllocError>
     requires { IsOver bases.now (form f.now) }
     ensures value { IfOk result (λ o. IfSome o (λ h. (left : ℕ) → op_of Domain (stands bases.now (form f.now) ∷ []) left ≡ Gives (stands bases.now (form h)) 0)) }
     ensures over { IfOk result (λ o. IfSome o (λ h. IsOver bases.now (form h))) }
@@ -39,7 +38,7 @@ pub fn domain(alloc: Global, f: &Held, bases: &Bases) -> Result<Option<Held>, Me
 }
 
 // The numbers of the points of a map.
-fn points(alloc: Global, f: &Held) -> Result<Option<Held>, Memory>
+fn points(alloc: Global, f: &Held) -> Result<Option<Held>, AllocError>
     ensures form { IfOk result (λ o. IfSome o (λ h. IsDomain (form f.now) (form h))) }
     ensures kernel { IfOk result (λ o. is_some o ≡ is_some (table_of (form f.now))) }
 {
@@ -64,7 +63,7 @@ fn points(alloc: Global, f: &Held) -> Result<Option<Held>, Memory>
 }
 
 // The numbers that have a content.
-fn remote_points(alloc: Global, slots: &Slots<Held>) -> Result<Bits, Memory>
+fn remote_points(alloc: Global, slots: &Slots<Held>) -> Result<Bits, AllocError>
     ensures { IfOk result (λ ns. (n : ℕ) → set.contains ns n ≡ is_some (slot_at slots.now n)) }
 {
     let mut numbers = Bits::new(alloc)?;
@@ -76,7 +75,7 @@ fn remote_points(alloc: Global, slots: &Slots<Held>) -> Result<Bits, Memory>
 }
 
 // Puts a number in where it has a content.
-fn put_point(slots: &Slots<Held>, n: u64, numbers: &mut Bits) -> Result<(), Memory>
+fn put_point(slots: &Slots<Held>, n: u64, numbers: &mut Bits) -> Result<(), AllocError>
     ensures { OnOk result ((q : ℕ) → set.contains numbers.new q ≡ ((nat_eq n q && is_some (slot_at slots.now n)) || set.contains numbers.old q)) }
 {
     if slots.get(n).is_some() {
@@ -86,7 +85,7 @@ fn put_point(slots: &Slots<Held>, n: u64, numbers: &mut Bits) -> Result<(), Memo
 }
 
 // The numbers that have a content.
-fn sparse_points(alloc: Global, table: &SparseMap<Held>) -> Result<SparseSet, Memory>
+fn sparse_points(alloc: Global, table: &SparseMap<Held>) -> Result<SparseSet, AllocError>
     ensures { IfOk result (λ ns. (n : ℕ) → set.contains ns n ≡ is_some (content_at table.now n)) }
 {
     let numbers = table.numbers(alloc)?;
@@ -94,7 +93,7 @@ fn sparse_points(alloc: Global, table: &SparseMap<Held>) -> Result<SparseSet, Me
 }
 
 // The set of the numbers of a list.
-fn set_of(alloc: Global, list: &[u64]) -> Result<SparseSet, Memory>
+fn set_of(alloc: Global, list: &[u64]) -> Result<SparseSet, AllocError>
     ensures { IfOk result (λ ns. (n : ℕ) → set.contains ns n ≡ list_any (nat_eq n) list.now) }
 {
     let mut numbers = SparseSet::new(alloc)?;

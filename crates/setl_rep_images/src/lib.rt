@@ -7,4 +7,3 @@ mod selecting;
 
 pub use domains::domain;
 pub use selecting::{image, images};
-pub use std::alloc::AllocError as Memory;

@@ -14,13 +14,12 @@ ghost use Rattle.setl_rep_maps.specs.Contents.{table_of};
 ghost use Rattle.setl_rep_plain.specs.Standing.{held_value, IsHeldOver};
 ghost use Rattle.setl_rep_tables.specs.Tables.{images_of};
 
-use crate::Memory;
 use crate::contents::content_value;
 use setl_rep_bases::Bases;
 use setl_rep_forms::Held;
 use setl_rep_maps::table_of;
 use setl_value::{SetBody, Value};
-use std::alloc::Global;
+use std::alloc::{AllocError, Global};
 
 /// `f(x)`: the one image of `x`, which is `om` where it has none or several. None exactly where the map isn't held as a table.
 /// Nothing is charged.
@@ -31,7 +30,7 @@ pub fn image(
     f: &Held,
     x: &Value,
     bases: &Bases,
-) -> Result<Option<Option<Value>>, Memory>
+) -> Result<Option<Option<Value>>, AllocError>
     requires { IsHeldOver bases.now f.now }
     ensures value { IfOk result (λ o. IfSome o (λ v. (left : ℕ) → op_of Get (held_value bases.now f.now ∷ Some (datum x.now) ∷ []) left ≡ Gives (part v) 0)) }
     ensures kernel { IfOk result (λ o. is_some o ≡ is_some (table_of (form f.now))) }
@@ -48,7 +47,12 @@ pub fn image(
 /// forms. Nothing is charged.
 ///
 /// An error is want of memory. The cost is near linear in the sizes of `x` and its images.
-pub fn images(alloc: Global, f: &Held, x: &Value, bases: &Bases) -> Result<Option<Value>, Memory>
+pub fn images(
+    alloc: Global,
+    f: &Held,
+    x: &Value,
+    bases: &Bases,
+) -> Result<Option<Value>, AllocError>
     requires { IsHeldOver bases.now f.now }
     ensures value { IfOk result (λ o. IfSome o (λ v. (left : ℕ) → op_of Images (held_value bases.now f.now ∷ Some (datum x.now) ∷ []) left ≡ Gives (Some (datum v)) 0)) }
     ensures kernel { IfOk result (λ o. is_some o ≡ keeps_sets (form f.now)) }
@@ -65,7 +69,7 @@ pub fn images(alloc: Global, f: &Held, x: &Value, bases: &Bases) -> Result<Optio
 }
 
 // The one image in a content, which stands for it or for the set of images. An error is want of memory.
-fn one_of(many: bool, content: Option<Value>) -> Result<Option<Value>, Memory>
+fn one_of(many: bool, content: Option<Value>) -> Result<Option<Value>, AllocError>
     ensures { IfOk result (λ v. part v ≡ only (images_of many (part content))) }
 {
     if many {
@@ -76,7 +80,7 @@ fn one_of(many: bool, content: Option<Value>) -> Result<Option<Value>, Memory>
 }
 
 // The one member of a set of images; None where it has several, or there is no set. An error is want of memory.
-fn one_of_set(content: Option<Value>) -> Result<Option<Value>, Memory>
+fn one_of_set(content: Option<Value>) -> Result<Option<Value>, AllocError>
     ensures { IfOk result (λ v. part v ≡ only (images_of true (part content))) }
 {
     let Some(value) = content else {
@@ -93,7 +97,7 @@ fn one_of_set(content: Option<Value>) -> Result<Option<Value>, Memory>
 }
 
 // The member of a set with one member; None for other sets. An error is want of memory.
-fn only_member(s: &SetBody) -> Result<Option<Value>, Memory>
+fn only_member(s: &SetBody) -> Result<Option<Value>, AllocError>
     ensures { IfOk result (λ v. part v ≡ only (Members s.now)) }
 {
     if s.len() == 1 {
@@ -103,7 +107,7 @@ fn only_member(s: &SetBody) -> Result<Option<Value>, Memory>
 }
 
 // The set of images that a content stands for, which is empty where there is none. An error is want of memory.
-fn set_of_images(alloc: Global, content: Option<Value>) -> Result<Value, Memory>
+fn set_of_images(alloc: Global, content: Option<Value>) -> Result<Value, AllocError>
     ensures { IfOk result (λ v. datum v ≡ set_of (images_of true (part content))) }
 {
     let Some(value) = content else {
@@ -120,7 +124,7 @@ fn set_of_images(alloc: Global, content: Option<Value>) -> Result<Value, Memory>
 }
 
 // The empty set. An error is want of memory.
-fn no_images(alloc: Global) -> Result<Value, Memory>
+fn no_images(alloc: Global) -> Result<Value, AllocError>
     ensures { IfOk result (λ v. datum v ≡ set_of []) }
 {
     Ok(Value::Set(SetBody::new(alloc)?))

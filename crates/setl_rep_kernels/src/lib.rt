@@ -13,5 +13,4 @@ mod walk;
 pub use changes::change;
 pub use membership::{is_in, size};
 pub use operations::{SetOperation, combined};
-pub use std::alloc::AllocError as Memory;
 pub use walk::next;

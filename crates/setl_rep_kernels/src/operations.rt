@@ -9,13 +9,12 @@ ghost use Rattle.setl_rep_forms.specs.Stands.{stands, IsOver};
 ghost use Rattle.setl_rep_kernels.specs.Kernels.{operator_of, combined_numbers, are_remote_alike, IsAlike};
 ghost use Rattle.setl_rep_kernels.specs.Parts.{remote_parts, AreRemote};
 
-use crate::Memory;
 use crate::parts::numbers_of;
 use setl_remote::Bits;
 use setl_rep_based::Numbers;
 use setl_rep_bases::{BaseId, Bases};
 use setl_rep_forms::{Held, laws};
-use std::alloc::Global;
+use std::alloc::{AllocError, Global};
 
 /// An operation on two sets.
 #[derive(Clone, Copy, Debug, PartialEq, Eq)]
@@ -38,7 +37,7 @@ pub fn combined(
     a: &Held,
     b: &Held,
     bases: &Bases,
-) -> Result<Option<Held>, Memory>
+) -> Result<Option<Held>, AllocError>
     requires left { IsOver bases.now (form a.now) }
     requires right { IsOver bases.now (form b.now) }
     ensures value { IfOk result (λ o. IfSome o (λ r. (left : ℕ) → op_of (operator_of what) (stands bases.now (form a.now) ∷ stands bases.now (form b.now) ∷ []) left ≡ Gives (stands bases.now (form r)) 0)) }
@@ -76,7 +75,7 @@ fn remote_bits(s: &Held) -> Option<(BaseId, &Bits)>
 }
 
 // The operation on two sets of numbers.
-fn bits_of(alloc: Global, what: SetOperation, x: &Bits, y: &Bits) -> Result<Bits, Memory>
+fn bits_of(alloc: Global, what: SetOperation, x: &Bits, y: &Bits) -> Result<Bits, AllocError>
     ensures { IfOk result (λ bits. bits ≡ combined_numbers what x.now y.now) }
 {
     match what {

@@ -10,4 +10,3 @@ mod parts;
 mod sets;
 
 pub use lines::{push_base, push_variable};
-pub use std::alloc::AllocError as Memory;

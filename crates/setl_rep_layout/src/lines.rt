@@ -11,7 +11,6 @@ ghost use Rattle.setl_rep_layout.specs.Laid.{IsAttributed};
 ghost use Rattle.setl_rep_layout.specs.Members.{member_list, members_by, values_of};
 ghost use Rattle.setl_rep_layout.specs.Texts.{after_blanks, inner_texts};
 
-use crate::Memory;
 use crate::parts::push_part;
 use setl_base::Base;
 use setl_modes::Mode;
@@ -19,12 +18,17 @@ use setl_rep_based::member;
 use setl_rep_bases::Bases;
 use setl_rep_forms::Held;
 use setl_text::{push_decimal, text};
-use std::alloc::Global;
+use std::alloc::{AllocError, Global};
 
 /// Adds the line of a base: its name, how many members it has, and these by their block numbers.
 ///
 /// The error is want of memory.
-pub fn push_base(alloc: Global, name: &[u8], base: &Base, into: &mut Vec<u8>) -> Result<(), Memory>
+pub fn push_base(
+    alloc: Global,
+    name: &[u8],
+    base: &Base,
+    into: &mut Vec<u8>,
+) -> Result<(), AllocError>
     ensures { OnOk result (into.new.items ≡ into.old.items ++ base_line name.now (values_of base.now)) }
 {
     into.extend_from_slice(b"base ")?;
@@ -38,7 +42,7 @@ pub fn push_base(alloc: Global, name: &[u8], base: &Base, into: &mut Vec<u8>) ->
 }
 
 // Adds the texts of the members, each behind a blank.
-fn push_members(alloc: Global, base: &Base, into: &mut Vec<u8>) -> Result<(), Memory>
+fn push_members(alloc: Global, base: &Base, into: &mut Vec<u8>) -> Result<(), AllocError>
     ensures { OnOk result (into.new.items ≡ into.old.items ++ after_blanks (inner_texts (values_of base.now))) }
 {
     let count = base.mark().count;
@@ -49,7 +53,7 @@ fn push_members(alloc: Global, base: &Base, into: &mut Vec<u8>) -> Result<(), Me
 }
 
 // Adds the text of the member with a block number behind a blank.
-fn push_member(alloc: Global, base: &Base, n: u64, into: &mut Vec<u8>) -> Result<(), Memory>
+fn push_member(alloc: Global, base: &Base, n: u64, into: &mut Vec<u8>) -> Result<(), AllocError>
     ensures { OnOk result (into.new.items ≡ into.old.items ++ after_blanks (inner_texts (member_list base.now n))) }
 {
     if let Some(v) = member(base, n) {
@@ -71,7 +75,7 @@ pub fn push_variable(
     h: &Held,
     bases: &Bases,
     into: &mut Vec<u8>,
-) -> Result<(), Memory>
+) -> Result<(), AllocError>
     requires over { IsOver bases.now (form h.now) }
     requires form { HasFormOrOm main (mode_of mode.now) (form h.now) }
     requires attributed { IsAttributed (mode_of mode.now) }

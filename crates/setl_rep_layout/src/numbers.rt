@@ -6,14 +6,13 @@ ghost use Rattle.setl_rep_forms.specs.FormOf.{form};
 ghost use Rattle.setl_rep_forms.specs.Stands.{IsOver};
 ghost use Rattle.setl_rep_layout.specs.Listing.{has_content, ListsExactly};
 
-use crate::Memory;
 use setl_remote::Slots;
 use setl_rep_bases::Bases;
 use setl_rep_forms::Held;
-use std::alloc::Global;
+use std::alloc::{AllocError, Global};
 
 /// The numbers at which a map has contents, rising; none for other forms. The error is want of memory.
-pub(crate) fn numbers_of(alloc: Global, map: &Held, bases: &Bases) -> Result<Vec<u64>, Memory>
+pub(crate) fn numbers_of(alloc: Global, map: &Held, bases: &Bases) -> Result<Vec<u64>, AllocError>
     requires { IsOver bases.now (form map.now) }
     ensures { IfOk result (λ list. ListsExactly (has_content (form map.now)) list.items) }
 {
@@ -26,7 +25,7 @@ pub(crate) fn numbers_of(alloc: Global, map: &Held, bases: &Bases) -> Result<Vec
 }
 
 // The numbers of the slots that have a content, rising.
-fn slot_numbers(alloc: Global, slots: &Slots<Held>) -> Result<Vec<u64>, Memory>
+fn slot_numbers(alloc: Global, slots: &Slots<Held>) -> Result<Vec<u64>, AllocError>
     requires { slot_at slots.now 0 ≡ None }
     ensures { IfOk result (λ list. ListsExactly (λ n. is_some (slot_at slots.now n)) list.items) }
 {
@@ -37,7 +36,7 @@ fn slot_numbers(alloc: Global, slots: &Slots<Held>) -> Result<Vec<u64>, Memory>
     Ok(list)
 }
 
-fn push_if(is_there: bool, n: u64, list: &mut Vec<u64>) -> Result<(), Memory>
+fn push_if(is_there: bool, n: u64, list: &mut Vec<u64>) -> Result<(), AllocError>
     ensures { OnOk result (list.new.items ≡ (if is_there then list.old.items ++ n ∷ [] else list.old.items)) }
 {
     if is_there {

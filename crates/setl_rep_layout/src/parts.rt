@@ -12,7 +12,6 @@ ghost use Rattle.setl_rep_layout.specs.Texts.{after_blanks, element_text, conten
 ghost use Rattle.setl_rep_maps.specs.Contents.{HasBase, IsTable};
 ghost use Rattle.setl_value.specs.code.DatumOf.{datum};
 
-use crate::Memory;
 use crate::numbers::numbers_of;
 use crate::sets::{push_digits, push_numbers};
 use setl_base::Elt;
@@ -24,7 +23,7 @@ use setl_rep_maps::{content, learn, table_of};
 use setl_sparse::SparseSet;
 use setl_text::{push_decimal, text};
 use setl_value::Value;
-use std::alloc::Global;
+use std::alloc::{AllocError, Global};
 
 /// Adds the text of a value that is held in the form of its mode. The error is want of memory.
 #[cycle(parts)]
@@ -34,7 +33,7 @@ pub(crate) fn push_part(
     h: &Held,
     bases: &Bases,
     into: &mut Vec<u8>,
-) -> Result<(), Memory>
+) -> Result<(), AllocError>
     requires { IsLaid bases.now (mode_of mode.now) (form h.now) }
     ensures { OnOk result (into.new.items ≡ into.old.items ++ held_text bases.now (mode_of mode.now) (stands bases.now (form h.now))) }
 {
@@ -57,7 +56,7 @@ pub(crate) fn push_part(
 }
 
 // Adds the text of a value that is held plain.
-fn push_plain(alloc: Global, v: &Value, into: &mut Vec<u8>) -> Result<(), Memory>
+fn push_plain(alloc: Global, v: &Value, into: &mut Vec<u8>) -> Result<(), AllocError>
     ensures { OnOk result (into.new.items ≡ into.old.items ++ plain_text (datum v.now)) }
 {
     let inner = text(alloc, v)?;
@@ -66,7 +65,7 @@ fn push_plain(alloc: Global, v: &Value, into: &mut Vec<u8>) -> Result<(), Memory
 }
 
 // Adds the text of an element, which is the number of its block.
-fn push_element(e: Elt, into: &mut Vec<u8>) -> Result<(), Memory>
+fn push_element(e: Elt, into: &mut Vec<u8>) -> Result<(), AllocError>
     ensures { OnOk result (into.new.items ≡ into.old.items ++ element_text e) }
 {
     into.extend_from_slice(b"elmt ")?;
@@ -74,7 +73,7 @@ fn push_element(e: Elt, into: &mut Vec<u8>) -> Result<(), Memory>
 }
 
 // Adds the text of a tuple of handles: the number of each block, and `*` for `om`.
-fn push_handles(list: &[Option<Elt>], into: &mut Vec<u8>) -> Result<(), Memory>
+fn push_handles(list: &[Option<Elt>], into: &mut Vec<u8>) -> Result<(), AllocError>
     ensures { OnOk result (into.new.items ≡ into.old.items ++ (codes "tuple" ++ after_blanks (listed (handle_texts list.now)))) }
 {
     into.extend_from_slice(b"tuple")?;
@@ -85,7 +84,7 @@ fn push_handles(list: &[Option<Elt>], into: &mut Vec<u8>) -> Result<(), Memory>
 }
 
 // Adds the number of each block, or `*` for `om`, each behind a blank.
-fn push_each_handle(list: &[Option<Elt>], into: &mut Vec<u8>) -> Result<(), Memory>
+fn push_each_handle(list: &[Option<Elt>], into: &mut Vec<u8>) -> Result<(), AllocError>
     ensures { OnOk result (into.new.items ≡ into.old.items ++ after_blanks (handle_texts list.now)) }
 {
     for e in list {
@@ -96,7 +95,7 @@ fn push_each_handle(list: &[Option<Elt>], into: &mut Vec<u8>) -> Result<(), Memo
 }
 
 // Adds the number of a block, or `*`.
-fn push_handle(e: Option<Elt>, into: &mut Vec<u8>) -> Result<(), Memory>
+fn push_handle(e: Option<Elt>, into: &mut Vec<u8>) -> Result<(), AllocError>
     ensures { OnOk result (into.new.items ≡ into.old.items ++ handle_text e) }
 {
     match e {
@@ -107,7 +106,7 @@ fn push_handle(e: Option<Elt>, into: &mut Vec<u8>) -> Result<(), Memory>
 }
 
 // Adds the word of the attribute of a mode.
-fn push_word(mode: &Mode, into: &mut Vec<u8>) -> Result<(), Memory>
+fn push_word(mode: &Mode, into: &mut Vec<u8>) -> Result<(), AllocError>
     ensures { OnOk result (into.new.items ≡ into.old.items ++ form_word (attribute_of (mode_of mode.now))) }
 {
     match attribute(mode) {
@@ -148,7 +147,7 @@ fn push_remote(
     bits: &Bits,
     bases: &Bases,
     into: &mut Vec<u8>,
-) -> Result<(), Memory>
+) -> Result<(), AllocError>
     requires { IsLaid bases.now (mode_of mode.now) (numbers remote b bits.now) }
     ensures { OnOk result (into.new.items ≡ into.old.items ++ held_text bases.now (mode_of mode.now) (stands bases.now (numbers remote b bits.now))) }
 {
@@ -165,7 +164,7 @@ fn push_sparse(
     table: &SparseSet,
     bases: &Bases,
     into: &mut Vec<u8>,
-) -> Result<(), Memory>
+) -> Result<(), AllocError>
     requires { IsLaid bases.now (mode_of mode.now) (numbers sparse b table.now) }
     ensures { OnOk result (into.new.items ≡ into.old.items ++ held_text bases.now (mode_of mode.now) (stands bases.now (numbers sparse b table.now))) }
 {
@@ -181,7 +180,7 @@ fn push_map(
     map: &Held,
     bases: &Bases,
     into: &mut Vec<u8>,
-) -> Result<(), Memory>
+) -> Result<(), AllocError>
     requires laid { IsLaid bases.now (mode_of mode.now) (form map.now) }
     requires table { IsTable (form map.now) }
     ensures { OnOk result (into.new.items ≡ into.old.items ++ held_text bases.now (mode_of mode.now) (stands bases.now (form map.now))) }
@@ -213,7 +212,7 @@ fn push_entries(
     list: &[u64],
     bases: &Bases,
     into: &mut Vec<u8>,
-) -> Result<(), Memory>
+) -> Result<(), AllocError>
     requires { AreContentsLaid bases.now (mode_of mode.now) (form map.now) }
     ensures { OnOk result (into.new.items ≡ into.old.items ++ after_blanks (listed (entry_texts bases.now (mode_of mode.now) (form map.now) list.now))) }
 {
@@ -232,7 +231,7 @@ fn push_each_entry(
     list: &[u64],
     bases: &Bases,
     into: &mut Vec<u8>,
-) -> Result<(), Memory>
+) -> Result<(), AllocError>
     requires { AreContentsLaid bases.now (mode_of mode.now) (form map.now) }
     ensures { OnOk result (into.new.items ≡ into.old.items ++ after_blanks (entry_texts bases.now (mode_of mode.now) (form map.now) list.now)) }
 {
@@ -252,7 +251,7 @@ fn push_entry(
     n: u64,
     bases: &Bases,
     into: &mut Vec<u8>,
-) -> Result<(), Memory>
+) -> Result<(), AllocError>
     requires { AreContentsLaid bases.now (mode_of mode.now) (form map.now) }
     ensures { OnOk result (into.new.items ≡ into.old.items ++ entry_text bases.now (mode_of mode.now) (form map.now) n) }
 {
@@ -272,7 +271,7 @@ fn push_content(
     n: u64,
     bases: &Bases,
     into: &mut Vec<u8>,
-) -> Result<(), Memory>
+) -> Result<(), AllocError>
     requires { AreContentsLaid bases.now (mode_of mode.now) (form map.now) }
     ensures { OnOk result (into.new.items ≡ into.old.items ++ content_text bases.now (mode_of mode.now) (form map.now) n) }
 {

@@ -6,17 +6,16 @@ ghost use Rattle.setl_rep_forms.specs.Stands.{members_at, AreLiving};
 ghost use Rattle.setl_rep_layout.specs.Members.{values_of};
 ghost use Rattle.setl_rep_layout.specs.Texts.{after_blanks, decimals};
 
-use crate::Memory;
 use setl_base::Base;
 use setl_remote::Bits;
 use setl_rep_forms::laws;
 use setl_sparse::SparseSet;
 use setl_text::push_decimal;
-use std::alloc::Global;
+use std::alloc::{AllocError, Global};
 
 /// Adds a digit for each block of the base, 1 for a member of the set; `-` where the base has no blocks. The error is want
 /// of memory.
-pub(crate) fn push_digits(base: &Base, bits: &Bits, into: &mut Vec<u8>) -> Result<(), Memory>
+pub(crate) fn push_digits(base: &Base, bits: &Bits, into: &mut Vec<u8>) -> Result<(), AllocError>
     ensures { OnOk result (into.new.items ≡ into.old.items ++ digits_or_none (members_at base.now bits.now) (values_of base.now)) }
 {
     let count = base.mark().count;
@@ -28,7 +27,7 @@ pub(crate) fn push_digits(base: &Base, bits: &Bits, into: &mut Vec<u8>) -> Resul
 }
 
 // Adds a digit for each block.
-fn push_each_digit(base: &Base, bits: &Bits, into: &mut Vec<u8>) -> Result<(), Memory>
+fn push_each_digit(base: &Base, bits: &Bits, into: &mut Vec<u8>) -> Result<(), AllocError>
     ensures { OnOk result (into.new.items ≡ into.old.items ++ digits_of (members_at base.now bits.now) (values_of base.now)) }
 {
     laws::numbers_stand_for_members();
@@ -52,7 +51,7 @@ pub(crate) fn push_numbers(
     base: &Base,
     table: &SparseSet,
     into: &mut Vec<u8>,
-) -> Result<(), Memory>
+) -> Result<(), AllocError>
     requires { AreLiving base.now table.now }
     ensures { OnOk result (into.new.items ≡ into.old.items ++ after_blanks (listed (numbers_from 1 (members_at base.now table.now) (values_of base.now)))) }
 {
@@ -63,7 +62,7 @@ pub(crate) fn push_numbers(
 }
 
 // Adds numbers, each behind a blank; or `-` where there are none.
-fn push_list(list: &[u64], into: &mut Vec<u8>) -> Result<(), Memory>
+fn push_list(list: &[u64], into: &mut Vec<u8>) -> Result<(), AllocError>
     ensures { OnOk result (into.new.items ≡ into.old.items ++ after_blanks (listed (decimals list.now))) }
 {
     if list.is_empty() {
@@ -73,7 +72,7 @@ fn push_list(list: &[u64], into: &mut Vec<u8>) -> Result<(), Memory>
 }
 
 // Adds numbers, each behind a blank.
-fn push_each(list: &[u64], into: &mut Vec<u8>) -> Result<(), Memory>
+fn push_each(list: &[u64], into: &mut Vec<u8>) -> Result<(), AllocError>
     ensures { OnOk result (into.new.items ≡ into.old.items ++ after_blanks (decimals list.now)) }
 {
     for n in list {

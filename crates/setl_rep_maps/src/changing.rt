@@ -13,10 +13,10 @@ ghost use Rattle.setl_rep_maps.specs.Contents.{content_of, IsTable};
 ghost use Rattle.setl_rep_maps.specs.code.Changing.{ChangesContent, ChangesEntry};
 ghost use Rattle.setl_rep_maps.specs.code.Entries.{remote_entries, sparse_entries};
 
-use crate::Memory;
 use setl_remote::Slots;
 use setl_rep_forms::Held;
 use setl_sparse::SparseMap;
+use std::alloc::AllocError;
 use std::mem;
 use std::rc::Rc;
 
@@ -31,7 +31,7 @@ pub fn change_content<R, F: FnOnce(&mut Held) -> R>(
     map: &mut Held,
     block: u64,
     change: F,
-) -> Result<Option<R>, Memory>
+) -> Result<Option<R>, AllocError>
     requires table { IsTable (form map.old) }
     requires callable { (h : Held) → content_of (form map.old) block ≡ Some (form h) → FnOnceTakesAtMut F.FnOnce change h }
     ensures changed { IfOk result (λ o. IfSome o (λ r. ChangesContent F.FnOnce change block r (form map.old) (form map.new))) }
@@ -62,7 +62,7 @@ fn change_in_slots<R, F: FnOnce(&mut Held) -> R>(
     shared: &mut Rc<Slots<Held>>,
     block: u64,
     change: F,
-) -> Result<Option<R>, Memory>
+) -> Result<Option<R>, AllocError>
     requires callable { (h : Held) → content_in (remote_entries shared.old.value) block ≡ Some (form h) → FnOnceTakesAtMut F.FnOnce change h }
     ensures changed { IfOk result (λ o. IfSome o (λ r. ChangesEntry F.FnOnce change block r (remote_entries shared.old.value) (remote_entries shared.new.value))) }
     ensures nothing { IfOk result (λ o. IfNone o (content_in (remote_entries shared.old.value) block ≡ None)) }
@@ -93,7 +93,7 @@ fn change_in_table<R, F: FnOnce(&mut Held) -> R>(
     shared: &mut Rc<SparseMap<Held>>,
     block: u64,
     change: F,
-) -> Result<Option<R>, Memory>
+) -> Result<Option<R>, AllocError>
     requires callable { (h : Held) → content_in (sparse_entries shared.old.value) block ≡ Some (form h) → FnOnceTakesAtMut F.FnOnce change h }
     ensures changed { IfOk result (λ o. IfSome o (λ r. ChangesEntry F.FnOnce change block r (sparse_entries shared.old.value) (sparse_entries shared.new.value))) }
     ensures nothing { IfOk result (λ o. IfNone o (content_in (sparse_entries shared.old.value) block ≡ None)) }

@@ -12,4 +12,3 @@ mod putting;
 pub use changing::change_content;
 pub use contents::{content, image, learn, table_of};
 pub use putting::put_content;
-pub use std::alloc::AllocError as Memory;

@@ -6,10 +6,10 @@ ghost use Rattle.setl_rep_forms.specs.FormOf.{form};
 ghost use Rattle.setl_rep_maps.specs.Contents.{IsTable, PutsContent};
 ghost use Rattle.setl_rep_maps.specs.code.Entries.{remote_entries, sparse_entries, PutsEntry};
 
-use crate::Memory;
 use setl_remote::Slots;
 use setl_rep_forms::Held;
 use setl_sparse::SparseMap;
+use std::alloc::AllocError;
 use std::mem;
 use std::rc::Rc;
 
@@ -18,7 +18,7 @@ use std::rc::Rc;
 ///
 /// The error is want of memory, or that the number is 2^64 - 1, and then the map has the form that it had.
 #[tactic(auto, using(crate::proofs::Entries::remote_same, crate::proofs::Entries::sparse_same, crate::proofs::Entries::sparse_puts))]
-pub fn put_content(map: &mut Held, block: u64, content: Option<Held>) -> Result<(), Memory>
+pub fn put_content(map: &mut Held, block: u64, content: Option<Held>) -> Result<(), AllocError>
     requires table { IsTable (form map.old) }
     ensures put { OnOk result (PutsContent block (option_map form content) (form map.old) (form map.new)) }
     ensures refused { OnErr result (form map.new ≡ form map.old) }
@@ -46,7 +46,7 @@ fn put_in_slots(
     shared: &mut Rc<Slots<Held>>,
     block: u64,
     content: Option<Held>,
-) -> Result<(), Memory>
+) -> Result<(), AllocError>
     ensures put { OnOk result (PutsEntry block (option_map form content) (remote_entries shared.old.value) (remote_entries shared.new.value)) }
     ensures refused { OnErr result (remote_entries shared.new.value ≡ remote_entries shared.old.value) }
 {
@@ -61,7 +61,7 @@ fn put_in_table(
     shared: &mut Rc<SparseMap<Held>>,
     block: u64,
     content: Option<Held>,
-) -> Result<(), Memory>
+) -> Result<(), AllocError>
     ensures put { OnOk result (PutsEntry block (option_map form content) (sparse_entries shared.old.value) (sparse_entries shared.new.value)) }
     ensures refused { OnErr result (sparse_entries shared.new.value ≡ sparse_entries shared.old.value) }
 {

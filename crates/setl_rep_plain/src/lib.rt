@@ -4,5 +4,4 @@
 mod pairs;
 mod values;
 
-pub use std::alloc::AllocError as Memory;
 pub use values::plain;

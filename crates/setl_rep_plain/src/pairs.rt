@@ -7,9 +7,8 @@ ghost use Rattle.setl_value.specs.code.Body.{Members};
 ghost use Rattle.setl_value.specs.code.DatumOf.{datum};
 ghost use Rattle.setl_rep_forms.specs.Stands.{images_in, pairs_of};
 
-use crate::Memory;
 use setl_value::{SetBody, TupleBody, Value};
-use std::alloc::Global;
+use std::alloc::{AllocError, Global};
 
 /// Puts the pairs of a point at the end: that with `y`, or, where `many` says so, those with the members of `y`. An error
 /// is want of memory.
@@ -19,7 +18,7 @@ pub(crate) fn push_pairs(
     x: &Value,
     y: &Value,
     pairs: &mut Vec<Value>,
-) -> Result<(), Memory>
+) -> Result<(), AllocError>
     requires { depth (set_of (pairs_of many (Some (datum x.now)) (Some (datum y.now)))) ≤ 500 }
     ensures { OnOk result (map datum pairs.new.items ≡ map datum pairs.old.items ++ pairs_of many (Some (datum x.now)) (Some (datum y.now))) }
 {
@@ -39,7 +38,7 @@ fn push_images(
     x: &Value,
     images: &SetBody,
     pairs: &mut Vec<Value>,
-) -> Result<(), Memory>
+) -> Result<(), AllocError>
     requires { depth (set_of (map (pair (datum x.now)) (Members images.now))) ≤ 500 }
     ensures { OnOk result (map datum pairs.new.items ≡ map datum pairs.old.items ++ map (pair (datum x.now)) (Members images.now)) }
 {
@@ -50,7 +49,7 @@ fn push_images(
 }
 
 // The pair of two values.
-fn pair(alloc: Global, x: &Value, y: &Value) -> Result<Value, Memory>
+fn pair(alloc: Global, x: &Value, y: &Value) -> Result<Value, AllocError>
     requires { depth (pair (datum x.now) (datum y.now)) ≤ 500 }
     ensures { IfOk result (λ p. datum p ≡ pair (datum x.now) (datum y.now)) }
 {

@@ -11,7 +11,6 @@ ghost use Rattle.setl_set.specs.Sets.{set_from};
 ghost use Rattle.setl_value.specs.code.Body.{Members};
 ghost use Rattle.setl_rep_plain.specs.Entries.{remote_entries, sparse_entries, IsEntryOver};
 
-use crate::Memory;
 use crate::pairs::push_pairs;
 use setl_map::gathered;
 use setl_remote::Slots;
@@ -20,14 +19,14 @@ use setl_rep_bases::{BaseId, Bases};
 use setl_rep_forms::Held;
 use setl_sparse::SparseMap;
 use setl_value::{SetBody, Value};
-use std::alloc::Global;
+use std::alloc::{AllocError, Global};
 
 /// The plain value, or `om`, that a form stands for, which is at most 500 deep. An error is want of memory.
 ///
 /// A plain value is shared. Otherwise its cost is near linear in the size of the value, and for a remote map also in the
 /// greatest number that has a content.
 #[cycle(plain)]
-pub fn plain(alloc: Global, h: &Held, bases: &Bases) -> Result<Option<Value>, Memory>
+pub fn plain(alloc: Global, h: &Held, bases: &Bases) -> Result<Option<Value>, AllocError>
     requires over { IsOver bases.now (form h.now) }
     requires shallow { part_depth (stands bases.now (form h.now)) ≤ 500 }
     ensures { IfOk result (λ v. part v ≡ stands bases.now (form h.now)) }
@@ -60,7 +59,7 @@ pub fn plain(alloc: Global, h: &Held, bases: &Bases) -> Result<Option<Value>, Me
 }
 
 // A copy of what is lent.
-fn copied(v: Option<&Value>) -> Result<Option<Value>, Memory>
+fn copied(v: Option<&Value>) -> Result<Option<Value>, AllocError>
     ensures { IfOk result (λ p. part p ≡ option_map (λ x. datum x.now) v.entry) }
 {
     match v {
@@ -70,7 +69,7 @@ fn copied(v: Option<&Value>) -> Result<Option<Value>, Memory>
 }
 
 // The set of these.
-fn set_of_pairs(alloc: Global, pairs: Vec<Value>) -> Result<SetBody, Memory>
+fn set_of_pairs(alloc: Global, pairs: Vec<Value>) -> Result<SetBody, AllocError>
     requires { depth (set_of (set_from (map datum pairs.items))) ≤ 500 }
     ensures { IfOk result (λ s. Members s ≡ set_from (map datum pairs.items)) }
 {
@@ -87,7 +86,7 @@ fn remote_pairs(
     many: bool,
     slots: &Slots<Held>,
     bases: &Bases,
-) -> Result<Vec<Value>, Memory>
+) -> Result<Vec<Value>, AllocError>
     requires there { IsThere bases.now b }
     requires over { AreOver bases.now (base_at bases.now b) many (remote_entries slots.now) }
     requires shallow { depth (set_of (set_from (pairs_in bases.now (base_at bases.now b) many (remote_entries slots.now)))) ≤ 500 }
@@ -112,7 +111,7 @@ fn sparse_pairs(
     many: bool,
     entries: &SparseMap<Held>,
     bases: &Bases,
-) -> Result<Vec<Value>, Memory>
+) -> Result<Vec<Value>, AllocError>
     requires there { IsThere bases.now b }
     requires over { AreOver bases.now (base_at bases.now b) many (sparse_entries entries.now) }
     requires shallow { depth (set_of (set_from (pairs_in bases.now (base_at bases.now b) many (sparse_entries entries.now)))) ≤ 500 }
@@ -138,7 +137,7 @@ fn push_entry(
     content: &Held,
     bases: &Bases,
     pairs: &mut Vec<Value>,
-) -> Result<(), Memory>
+) -> Result<(), AllocError>
     requires there { IsThere bases.now b }
     requires over { IsEntryOver bases.now (base_at bases.now b) many n (form content.now) }
     requires shallow { depth (set_of (pairs_of many (value_at (base_at bases.now b) n) (stands bases.now (form content.now)))) ≤ 500 }

@@ -9,7 +9,6 @@ use crate::values::denoted;
 use setl_rep::ConvertFault;
 use setl_rep_bases::Bases;
 use setl_rep_forms::Held;
-use setl_value::Memory;
 use std::alloc::{AllocError, Global};
 use std::process::Abort;
 use std::test::Fail;
@@ -53,7 +52,7 @@ fn values_go_into_the_forms_of_their_rows(rt: HostRuntime) -> Result<(), Fail> {
 }
 
 // Writes a row anew, and compares.
-fn expect_row(rt: &impl Abort, alloc: Global, row: &str) -> Result<(), Memory> {
+fn expect_row(rt: &impl Abort, alloc: Global, row: &str) -> Result<(), AllocError> {
     let (start, want) = row.rsplit_once(" | ").unwrap_or((row, ""));
     let mut shown = Vec::new(alloc);
     put_row(rt, alloc, start, &mut shown)?;
@@ -69,7 +68,12 @@ pub fn expect(rt: &impl Abort, row: &str, want: &str, shown: &Vec<u8>) {
     }
 }
 
-fn put_row(rt: &impl Abort, alloc: Global, start: &str, into: &mut Vec<u8>) -> Result<(), Memory> {
+fn put_row(
+    rt: &impl Abort,
+    alloc: Global,
+    start: &str,
+    into: &mut Vec<u8>,
+) -> Result<(), AllocError> {
     let (words, rest) = start.split_once(" | ").unwrap_or((start, ""));
     let (members, value) = rest.split_once(" | ").unwrap_or((rest, ""));
     let (first, second) = words.split_once(" > ").unwrap_or((words, words));
@@ -85,7 +89,7 @@ fn put_into(
     value: &str,
     bases: &mut Bases,
     into: &mut Vec<u8>,
-) -> Result<(), Memory> {
+) -> Result<(), AllocError> {
     let first = mode(alloc, words[0])?;
     match held(rt, alloc, &first, denoted(alloc, value)?, bases) {
         Ok(h) => put_second(rt, alloc, words[1], &h, bases, into),
@@ -100,7 +104,7 @@ fn put_second(
     h: &Held,
     bases: &mut Bases,
     into: &mut Vec<u8>,
-) -> Result<(), Memory>
+) -> Result<(), AllocError>
     requires over { IsHeldOver bases.old h.now }
     requires value { IsValueOrOm (held_value bases.old h.now) }
 {
@@ -111,7 +115,7 @@ fn put_second(
     }
 }
 
-fn put_fault(e: ConvertFault, into: &mut Vec<u8>) -> Result<(), Memory> {
+fn put_fault(e: ConvertFault, into: &mut Vec<u8>) -> Result<(), AllocError> {
     match e {
         ConvertFault::Unfit => into.extend_from_slice(b"Unfit\n")?,
         ConvertFault::NoMemory => return Err(AllocError),

@@ -17,7 +17,7 @@ use setl_rep_bases::{BaseId, Bases};
 use setl_rep_entering::bases_are_there;
 use setl_rep_forms::Held;
 use setl_rep_plain::plain;
-use setl_value::{Memory, Value};
+use setl_value::Value;
 use std::alloc::{AllocError, Global};
 use std::process::Abort;
 
@@ -29,7 +29,7 @@ pub fn main_base(base: u32) -> BaseId
 }
 
 /// Two bases of the main program, of which the first has the components of this tuple as members, in their order.
-pub fn bases(rt: &impl Abort, alloc: Global, members: &str) -> Result<Bases, Memory> {
+pub fn bases(rt: &impl Abort, alloc: Global, members: &str) -> Result<Bases, AllocError> {
     let mut bases = Bases::new(alloc, 2)?;
     if let Some(Value::Tuple(t)) = denoted(alloc, members)? {
         for i in 0..t.len() {
@@ -41,7 +41,7 @@ pub fn bases(rt: &impl Abort, alloc: Global, members: &str) -> Result<Bases, Mem
     Ok(bases)
 }
 
-fn enter(rt: &impl Abort, bases: &mut Bases, v: &Value) -> Result<(), Memory> {
+fn enter(rt: &impl Abort, bases: &mut Bases, v: &Value) -> Result<(), AllocError> {
     assert!(rt; bases.has(main_base(0)));
     bases.enter(main_base(0), v.copy()?)?;
     Ok(())
@@ -110,7 +110,7 @@ pub fn fitting(
     mode: &Mode,
     value: Option<Value>,
     bases: &mut Bases,
-) -> Result<Held, Memory>
+) -> Result<Held, AllocError>
     ensures held { IfOk result (λ h. IsInForm bases.new 0 (mode_of mode.now) (form h)) }
     ensures over { IfOk result (λ h. IsHeldOver bases.new h) }
     ensures value { IfOk result (λ h. IsValueOrOm (held_value bases.new h)) }
@@ -140,7 +140,7 @@ pub fn put_held(
     h: &Held,
     bases: &Bases,
     into: &mut Vec<u8>,
-) -> Result<(), Memory>
+) -> Result<(), AllocError>
     requires { IsInForm bases.now 0 (mode_of mode.now) (form h.now) }
 {
     let value = plain(alloc, h, bases)?;
@@ -156,7 +156,7 @@ pub fn put_bases(
     alloc: Global,
     bases: &Bases,
     into: &mut Vec<u8>,
-) -> Result<(), Memory> {
+) -> Result<(), AllocError> {
     put_base(rt, alloc, bases, 0, into)?;
     put_base(rt, alloc, bases, 1, into)
 }
@@ -167,7 +167,7 @@ fn put_base(
     bases: &Bases,
     base: u32,
     into: &mut Vec<u8>,
-) -> Result<(), Memory> {
+) -> Result<(), AllocError> {
     assert!(rt; bases.has(main_base(base)));
     into.extend_from_slice(if base == 0 { b"b:" } else { b"c:" })?;
     put_members(alloc, bases.at(main_base(base)), into)?;
@@ -176,7 +176,7 @@ fn put_base(
 }
 
 // Adds the members by the numbers of their blocks, each behind a blank.
-fn put_members(alloc: Global, base: &Base, into: &mut Vec<u8>) -> Result<(), Memory> {
+fn put_members(alloc: Global, base: &Base, into: &mut Vec<u8>) -> Result<(), AllocError> {
     for n in 0..base.mark().count {
         if let Some(v) = member(base, n + 1) {
             into.push(b' ')?;

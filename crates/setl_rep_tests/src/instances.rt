@@ -2,8 +2,8 @@
 
 use crate::holding::{bases, main_base};
 use setl_rep_bases::{BaseId, Bases};
-use setl_value::{Memory, Value};
-use std::alloc::Global;
+use setl_value::Value;
+use std::alloc::{AllocError, Global};
 use std::process::Abort;
 use std::test::Fail;
 
@@ -40,7 +40,7 @@ fn add_and_leave(
     alloc: Global,
     bases: &mut Bases,
     kept: bool,
-) -> Result<(), Memory> {
+) -> Result<(), AllocError> {
     assert!(rt; !bases.has(LOCAL));
     bases.add(alloc, LOCAL)?;
     enter_and_undo(rt, bases)?;
@@ -49,7 +49,7 @@ fn add_and_leave(
     Ok(())
 }
 
-fn enter_and_undo(rt: &impl Abort, bases: &mut Bases) -> Result<(), Memory> {
+fn enter_and_undo(rt: &impl Abort, bases: &mut Bases) -> Result<(), AllocError> {
     assert!(rt; bases.has(LOCAL));
     let mark = bases.at(LOCAL).mark();
     let e = bases.enter(LOCAL, Value::Int(3))?;

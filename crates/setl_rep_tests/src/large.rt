@@ -9,15 +9,15 @@ use setl_rep_bases::Bases;
 use setl_rep_forms::Held;
 use setl_rep_kernels::{is_in, size};
 use setl_rep_plain::plain;
-use setl_value::{Memory, Value};
-use std::alloc::Global;
+use setl_value::Value;
+use std::alloc::{AllocError, Global};
 use std::process::Abort;
 use std::test::Fail;
 
 const MANY: u64 = 100_000;
 
 // The set of the integers from 1 to `MANY`.
-fn many(alloc: Global) -> Result<Option<Value>, Memory> {
+fn many(alloc: Global) -> Result<Option<Value>, AllocError> {
     let mut bounds = Vec::new(alloc);
     bounds.push(Some(Value::Int(1)))?;
     bounds.push(Some(Value::Int(i128::from(MANY))))?;
@@ -40,7 +40,7 @@ fn expect_many(
     alloc: Global,
     mode: &Mode,
     bases: &mut Bases,
-) -> Result<(), Memory> {
+) -> Result<(), AllocError> {
     let h = fitting(rt, alloc, mode, many(alloc)?, bases)?;
     assert_eq!(rt; count(rt, bases, 0), MANY);
     assert_eq!(rt; size(&h, bases), Some(MANY));
@@ -66,7 +66,7 @@ fn forms_lie_two_hundred_deep_in_one_another(rt: HostRuntime) -> Result<(), Fail
 }
 
 // The first text 199 times, the second one, and the third one 199 times.
-fn repeated(alloc: Global, first: &str, inner: &str, last: &str) -> Result<String, Memory> {
+fn repeated(alloc: Global, first: &str, inner: &str, last: &str) -> Result<String, AllocError> {
     let mut text = String::new(alloc);
     for _i in 0..199 {
         text.push_str(first)?;
@@ -78,7 +78,7 @@ fn repeated(alloc: Global, first: &str, inner: &str, last: &str) -> Result<Strin
     Ok(text)
 }
 
-fn expect_deep(rt: &impl Abort, alloc: Global, words: &str, value: &str) -> Result<(), Memory> {
+fn expect_deep(rt: &impl Abort, alloc: Global, words: &str, value: &str) -> Result<(), AllocError> {
     let mut bases = bases(rt, alloc, "[]")?;
     let mode = mode(alloc, words)?;
     let h = fitting(rt, alloc, &mode, denoted(alloc, value)?, &mut bases)?;

@@ -3,11 +3,10 @@
 
 use setl_modes::{Form, Mode};
 use setl_tree::Boxed;
-use setl_value::Memory;
-use std::alloc::Global;
+use std::alloc::{AllocError, Global};
 
 /// The mode that these words write.
-pub fn mode(alloc: Global, words: &str) -> Result<Mode, Memory> {
+pub fn mode(alloc: Global, words: &str) -> Result<Mode, AllocError> {
     let mut made = Vec::new(alloc);
     for word in words.rsplit(' ') {
         let next = mode_of_word(alloc, word, &mut made)?;
@@ -17,7 +16,7 @@ pub fn mode(alloc: Global, words: &str) -> Result<Mode, Memory> {
 }
 
 // The mode that a word makes of the modes behind it.
-fn mode_of_word(alloc: Global, word: &str, made: &mut Vec<Mode>) -> Result<Mode, Memory> {
+fn mode_of_word(alloc: Global, word: &str, made: &mut Vec<Mode>) -> Result<Mode, AllocError> {
     match word {
         "int" => Ok(Mode::Int),
         "elmt" => Ok(Mode::Elmt(0, taken(alloc, made)?)),
@@ -28,7 +27,7 @@ fn mode_of_word(alloc: Global, word: &str, made: &mut Vec<Mode>) -> Result<Mode,
 }
 
 // The same of a set or a map.
-fn mode_with_form(alloc: Global, word: &str, made: &mut Vec<Mode>) -> Result<Mode, Memory> {
+fn mode_with_form(alloc: Global, word: &str, made: &mut Vec<Mode>) -> Result<Mode, AllocError> {
     let (attribute, kind) = word.split_once('_').unwrap_or((word, ""));
     let form = form(attribute);
     match kind {
@@ -39,13 +38,13 @@ fn mode_with_form(alloc: Global, word: &str, made: &mut Vec<Mode>) -> Result<Mod
     }
 }
 
-fn smap(alloc: Global, form: Form, made: &mut Vec<Mode>) -> Result<Mode, Memory> {
+fn smap(alloc: Global, form: Form, made: &mut Vec<Mode>) -> Result<Mode, AllocError> {
     let domain = taken(alloc, made)?;
     let range = taken(alloc, made)?;
     Ok(Mode::Smap(form, domain, range))
 }
 
-fn mmap(alloc: Global, form: Form, made: &mut Vec<Mode>) -> Result<Mode, Memory> {
+fn mmap(alloc: Global, form: Form, made: &mut Vec<Mode>) -> Result<Mode, AllocError> {
     let domain = taken(alloc, made)?;
     let images = taken(alloc, made)?;
     Ok(Mode::Mmap(form, domain, images))
@@ -61,6 +60,6 @@ fn form(attribute: &str) -> Form {
 }
 
 // The last mode that was made, taken out.
-fn taken(alloc: Global, made: &mut Vec<Mode>) -> Result<Boxed<Mode>, Memory> {
+fn taken(alloc: Global, made: &mut Vec<Mode>) -> Result<Boxed<Mode>, AllocError> {
     Boxed::new(alloc, made.pop().unwrap_or(Mode::General))
 }

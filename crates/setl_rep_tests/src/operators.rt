@@ -17,8 +17,7 @@ use setl_rep_forms::Held;
 use setl_rep_images::{domain, image, images};
 use setl_rep_kernels::next;
 use setl_text::push_decimal;
-use setl_value::Memory;
-use std::alloc::Global;
+use std::alloc::{AllocError, Global};
 use std::process::Abort;
 use std::test::Fail;
 
@@ -89,7 +88,12 @@ fn expect_row(rt: &impl Abort, alloc: Global, row: &str) -> Result<(), Fail> {
     Ok(())
 }
 
-fn put_row(rt: &impl Abort, alloc: Global, start: &str, into: &mut Vec<u8>) -> Result<(), Memory> {
+fn put_row(
+    rt: &impl Abort,
+    alloc: Global,
+    start: &str,
+    into: &mut Vec<u8>,
+) -> Result<(), AllocError> {
     let (name, rest) = start.split_once(" | ").unwrap_or((start, ""));
     let (words, rest) = rest.split_once(" | ").unwrap_or((rest, ""));
     let (members, values) = rest.split_once(" | ").unwrap_or((rest, ""));
@@ -111,7 +115,7 @@ fn put_one(
     value: &str,
     bases: &mut Bases,
     into: &mut Vec<u8>,
-) -> Result<(), Memory> {
+) -> Result<(), AllocError> {
     let mode = mode(alloc, words)?;
     let h = fitting(rt, alloc, &mode, denoted(alloc, value)?, bases)?;
     match name {
@@ -122,7 +126,7 @@ fn put_one(
 }
 
 #[tactic(auto, using(crate::proofs::Walking::one_over))]
-fn one(alloc: Global, h: Held, bases: &Bases) -> Result<Vec<Held>, Memory>
+fn one(alloc: Global, h: Held, bases: &Bases) -> Result<Vec<Held>, AllocError>
     requires { IsHeldOver bases.now h }
     ensures { IfOk result (λ hs. AreHeldOver bases.now hs.items) }
 {
@@ -140,7 +144,7 @@ fn put_two(
     values: &str,
     bases: &mut Bases,
     into: &mut Vec<u8>,
-) -> Result<(), Memory> {
+) -> Result<(), AllocError> {
     let (first, second) = values.split_once(" ; ").unwrap_or((values, ""));
     let a = operand(rt, alloc, words[0], first, bases)?;
     let b = operand(rt, alloc, words[1], second, bases)?;
@@ -153,7 +157,7 @@ fn operand(
     words: &str,
     value: &str,
     bases: &mut Bases,
-) -> Result<Held, Memory>
+) -> Result<Held, AllocError>
     ensures over { IfOk result (λ h. IsHeldOver bases.new h) }
     ensures stays { OnOk result ((h : Held) → IsHeldOver bases.old h → IsHeldOver bases.new h) }
 {
@@ -168,7 +172,7 @@ fn put_of_two(
     b: Held,
     bases: &Bases,
     into: &mut Vec<u8>,
-) -> Result<(), Memory>
+) -> Result<(), AllocError>
     requires first { IsHeldOver bases.now a }
     requires second { IsHeldOver bases.now b }
 {
@@ -180,7 +184,7 @@ fn put_of_two(
 }
 
 #[tactic(auto, using(crate::proofs::Walking::two_over))]
-fn two(alloc: Global, a: Held, b: Held, bases: &Bases) -> Result<Vec<Held>, Memory>
+fn two(alloc: Global, a: Held, b: Held, bases: &Bases) -> Result<Vec<Held>, AllocError>
     requires first { IsHeldOver bases.now a }
     requires second { IsHeldOver bases.now b }
     ensures { IfOk result (λ hs. AreHeldOver bases.now hs.items) }
@@ -197,7 +201,7 @@ fn put_image(
     x: &Held,
     bases: &Bases,
     into: &mut Vec<u8>,
-) -> Result<(), Memory>
+) -> Result<(), AllocError>
     requires { IsHeldOver bases.now f.now }
 {
     let Held::Plain(x) = x else {
@@ -215,7 +219,7 @@ fn put_images(
     x: &Held,
     bases: &Bases,
     into: &mut Vec<u8>,
-) -> Result<(), Memory>
+) -> Result<(), AllocError>
     requires { IsHeldOver bases.now f.now }
 {
     let Held::Plain(x) = x else {
@@ -228,7 +232,7 @@ fn put_images(
     }
 }
 
-fn put_points(alloc: Global, f: &Held, bases: &Bases, into: &mut Vec<u8>) -> Result<(), Memory>
+fn put_points(alloc: Global, f: &Held, bases: &Bases, into: &mut Vec<u8>) -> Result<(), AllocError>
     requires { IsHeldOver bases.now f.now }
 {
     match domain(alloc, f, bases)? {
@@ -239,7 +243,7 @@ fn put_points(alloc: Global, f: &Held, bases: &Bases, into: &mut Vec<u8>) -> Res
 
 // Adds the numbers of a set in the order of a walk.
 #[tactic(auto, using(crate::proofs::Walking::starts, crate::proofs::Walking::goes_on))]
-fn put_walk(s: &Held, bases: &Bases, into: &mut Vec<u8>) -> Result<(), Memory>
+fn put_walk(s: &Held, bases: &Bases, into: &mut Vec<u8>) -> Result<(), AllocError>
     requires { IsHeldOver bases.now s.now }
 {
     let mut after = None;
@@ -257,7 +261,7 @@ fn put_walk(s: &Held, bases: &Bases, into: &mut Vec<u8>) -> Result<(), Memory>
 }
 
 // Adds a number, behind a blank if it isn't the first.
-fn put_next(turn: u64, number: u64, into: &mut Vec<u8>) -> Result<(), Memory> {
+fn put_next(turn: u64, number: u64, into: &mut Vec<u8>) -> Result<(), AllocError> {
     if turn > 0 {
         into.push(b' ')?;
     }
@@ -271,7 +275,7 @@ fn put_applied(
     args: Vec<Held>,
     bases: &Bases,
     into: &mut Vec<u8>,
-) -> Result<(), Memory>
+) -> Result<(), AllocError>
     requires { AreHeldOver bases.now args.items }
 {
     if !takes(what, args.len()) {

@@ -14,8 +14,8 @@ use setl_rep_bases::Bases;
 use setl_rep_forms::Held;
 use setl_rep_plain::plain;
 use setl_rep_updates::{Change, update};
-use setl_value::{Memory, Value};
-use std::alloc::Global;
+use setl_value::Value;
+use std::alloc::{AllocError, Global};
 use std::process::Abort;
 use std::test::Fail;
 
@@ -58,7 +58,12 @@ fn expect_row(rt: &impl Abort, alloc: Global, row: &str) -> Result<(), Fail> {
     Ok(())
 }
 
-fn put_row(rt: &impl Abort, alloc: Global, start: &str, into: &mut Vec<u8>) -> Result<(), Memory> {
+fn put_row(
+    rt: &impl Abort,
+    alloc: Global,
+    start: &str,
+    into: &mut Vec<u8>,
+) -> Result<(), AllocError> {
     let (start, parts) = start.rsplit_once(" | ").unwrap_or((start, ""));
     let (name, rest) = start.split_once(" | ").unwrap_or((start, ""));
     let (words, rest) = rest.split_once(" | ").unwrap_or((rest, ""));
@@ -76,12 +81,12 @@ fn put_row(rt: &impl Abort, alloc: Global, start: &str, into: &mut Vec<u8>) -> R
     put_bases(rt, alloc, &bases, into)
 }
 
-fn change(alloc: Global, name: &str, parts: &str) -> Result<Change, Memory> {
+fn change(alloc: Global, name: &str, parts: &str) -> Result<Change, AllocError> {
     let (first, second) = parts.split_once(" ; ").unwrap_or((parts, ""));
     change_by(name, part(alloc, first)?, denoted(alloc, second)?)
 }
 
-fn change_by(name: &str, x: Value, y: Option<Value>) -> Result<Change, Memory> {
+fn change_by(name: &str, x: Value, y: Option<Value>) -> Result<Change, AllocError> {
     match name {
         "with" => Ok(Change::With(x)),
         "less" => Ok(Change::Less(x)),
@@ -91,7 +96,7 @@ fn change_by(name: &str, x: Value, y: Option<Value>) -> Result<Change, Memory> {
     }
 }
 
-fn part(alloc: Global, denotation: &str) -> Result<Value, Memory> {
+fn part(alloc: Global, denotation: &str) -> Result<Value, AllocError> {
     match denoted(alloc, denotation)? {
         Some(v) => Ok(v),
         None => Ok(Value::Bool(false)),
@@ -106,7 +111,7 @@ fn put_changed(
     change: &Change,
     bases: &mut Bases,
     into: &mut Vec<u8>,
-) -> Result<(), Memory> {
+) -> Result<(), AllocError> {
     let mut h = fitting(rt, alloc, mode, value, bases)?;
     put_update(alloc, mode, &mut h, change, bases, into)
 }
@@ -118,7 +123,7 @@ fn put_update(
     change: &Change,
     bases: &mut Bases,
     into: &mut Vec<u8>,
-) -> Result<(), Memory>
+) -> Result<(), AllocError>
     requires { IsInForm bases.old 0 (mode_of mode.now) (form h.old) }
 {
     let copy = h.copy()?;
@@ -136,7 +141,7 @@ fn changed(
     copy: &Held,
     change: &Change,
     bases: &mut Bases,
-) -> Result<bool, Memory>
+) -> Result<bool, AllocError>
     requires held { IsInForm bases.old 0 (mode_of mode.now) (form h.old) }
     requires copy { IsInForm bases.old 0 (mode_of mode.now) (form copy.now) }
     ensures held { IsInForm bases.new 0 (mode_of mode.now) (form h.new) }
@@ -146,6 +151,6 @@ fn changed(
     update(alloc, mode, h, change, bases, 0)
 }
 
-fn put_answer(made: bool, into: &mut Vec<u8>) -> Result<(), Memory> {
+fn put_answer(made: bool, into: &mut Vec<u8>) -> Result<(), AllocError> {
     into.extend_from_slice(if made { b"true\n" } else { b"false\n" })
 }

@@ -9,11 +9,11 @@ use setl_io::SureSource;
 use setl_rep_forms::Held;
 use setl_rep_maps::content;
 use setl_text::{Got, Reader, push_decimal, text};
-use setl_value::{Memory, Value};
-use std::alloc::Global;
+use setl_value::Value;
+use std::alloc::{AllocError, Global};
 
 /// The value that is denoted, or `om`.
-pub fn denoted(alloc: Global, denotation: &str) -> Result<Option<Value>, Memory> {
+pub fn denoted(alloc: Global, denotation: &str) -> Result<Option<Value>, AllocError> {
     let mut input = SureSource::new(denotation.as_bytes().to_vec(alloc)?);
     let mut reader = Reader::new(alloc)?;
     match reader.next(&mut input) {
@@ -37,7 +37,7 @@ pub fn plain_form(value: Option<Value>) -> Held
 }
 
 /// Adds the text of a value, or `*` for `om`, and the end of a line.
-pub fn put_value(alloc: Global, v: &Option<Value>, into: &mut Vec<u8>) -> Result<(), Memory> {
+pub fn put_value(alloc: Global, v: &Option<Value>, into: &mut Vec<u8>) -> Result<(), AllocError> {
     match v {
         None => into.push(b'*')?,
         Some(v) => put_text(alloc, v, into)?,
@@ -47,14 +47,14 @@ pub fn put_value(alloc: Global, v: &Option<Value>, into: &mut Vec<u8>) -> Result
 }
 
 /// Adds the text of a value.
-pub fn put_text(alloc: Global, v: &Value, into: &mut Vec<u8>) -> Result<(), Memory> {
+pub fn put_text(alloc: Global, v: &Value, into: &mut Vec<u8>) -> Result<(), AllocError> {
     let inner = text(alloc, v)?;
     into.extend_from_slice(inner.as_slice())
 }
 
 /// Adds a form: what is plain, the numbers of a set, an element or a tuple with a word before them, or those of a map with its
 /// contents.
-pub fn put_form(alloc: Global, h: &Held, into: &mut Vec<u8>) -> Result<(), Memory> {
+pub fn put_form(alloc: Global, h: &Held, into: &mut Vec<u8>) -> Result<(), AllocError> {
     put_single(alloc, h, into)?;
     for n in 0..9 {
         if let Some(c) = content(h, n + 1) {
@@ -64,7 +64,7 @@ pub fn put_form(alloc: Global, h: &Held, into: &mut Vec<u8>) -> Result<(), Memor
     Ok(())
 }
 
-fn put_content(alloc: Global, n: u64, c: &Held, into: &mut Vec<u8>) -> Result<(), Memory> {
+fn put_content(alloc: Global, n: u64, c: &Held, into: &mut Vec<u8>) -> Result<(), AllocError> {
     into.push(b' ')?;
     push_decimal(into, n)?;
     into.push(b'(')?;
@@ -74,7 +74,7 @@ fn put_content(alloc: Global, n: u64, c: &Held, into: &mut Vec<u8>) -> Result<()
 }
 
 // The same of a map without its contents.
-fn put_single(alloc: Global, h: &Held, into: &mut Vec<u8>) -> Result<(), Memory> {
+fn put_single(alloc: Global, h: &Held, into: &mut Vec<u8>) -> Result<(), AllocError> {
     match h {
         Held::Om => into.extend_from_slice(b"*"),
         Held::Plain(v) => put_text(alloc, v, into),
@@ -87,7 +87,7 @@ fn put_single(alloc: Global, h: &Held, into: &mut Vec<u8>) -> Result<(), Memory>
     }
 }
 
-fn put_tuple(list: &[Option<Elt>], into: &mut Vec<u8>) -> Result<(), Memory> {
+fn put_tuple(list: &[Option<Elt>], into: &mut Vec<u8>) -> Result<(), AllocError> {
     into.extend_from_slice(b"tuple")?;
     for e in list {
         into.push(b' ')?;
@@ -96,18 +96,18 @@ fn put_tuple(list: &[Option<Elt>], into: &mut Vec<u8>) -> Result<(), Memory> {
     Ok(())
 }
 
-fn put_component(e: &Option<Elt>, into: &mut Vec<u8>) -> Result<(), Memory> {
+fn put_component(e: &Option<Elt>, into: &mut Vec<u8>) -> Result<(), AllocError> {
     match e {
         None => into.extend_from_slice(b"*"),
         Some(e) => push_decimal(into, e.block),
     }
 }
 
-fn put_list(word: &str, numbers: Vec<u64>, into: &mut Vec<u8>) -> Result<(), Memory> {
+fn put_list(word: &str, numbers: Vec<u64>, into: &mut Vec<u8>) -> Result<(), AllocError> {
     put_numbers(word, numbers.as_slice(), into)
 }
 
-fn put_numbers(word: &str, numbers: &[u64], into: &mut Vec<u8>) -> Result<(), Memory> {
+fn put_numbers(word: &str, numbers: &[u64], into: &mut Vec<u8>) -> Result<(), AllocError> {
     into.extend_from_slice(word.as_bytes())?;
     for n in numbers {
         into.push(b' ')?;

@@ -20,7 +20,6 @@ ghost use Rattle.setl_rep_updates.specs.InForm.{IsInForm};
 ghost use Rattle.setl_rep_updates.specs.Updates.{adds_image, adds_to, is_part, with_image, IsUpdate};
 ghost use Rattle.setl_rep_updates.specs.code.Added.{IsImageAdded, TakesMember};
 
-use crate::Memory;
 use crate::maps::{is_part, set_of_pair};
 use crate::members::include_member;
 use setl_modes::Mode;
@@ -49,7 +48,7 @@ pub fn include_image(
     y: &Value,
     bases: &mut Bases,
     instance: u64,
-) -> Result<bool, Memory>
+) -> Result<bool, AllocError>
     requires { IsInForm bases.old instance (mode_of mode.now) (form f.old) }
     ensures kernel { IfOk result (λ t. t ≡ adds_image (mode_of mode.now) (form f.old) (datum x.now) (datum y.now)) }
     ensures update { IsUpdate (mode_of mode.now) instance (with_image (stands bases.old (form f.old)) (datum x.now) (datum y.now)) bases.old bases.new (form f.old) (form f.new) result }
@@ -71,7 +70,7 @@ fn include_at(
     y: &Value,
     bases: &mut Bases,
     instance: u64,
-) -> Result<bool, Memory>
+) -> Result<bool, AllocError>
     requires mode { (a : Attribute) × (mode_of mode.now ≡ MultiMaps a (mode_of d.now) (mode_of s.now)) }
     requires held { IsInForm bases.old instance (mode_of mode.now) (form f.old) }
     ensures kernel { IfOk result (λ t. t ≡ adds_to (mode_of d.now) (mode_of s.now) (form f.old) (datum x.now) (datum y.now)) }
@@ -95,7 +94,7 @@ fn include_in(
     y: &Value,
     bases: &mut Bases,
     instance: u64,
-) -> Result<bool, Memory>
+) -> Result<bool, AllocError>
     requires mode { (a : Attribute) × (mode_of mode.now ≡ MultiMaps a (mode_of d.now) (mode_of s.now)) }
     requires images { (a : Attribute) × (mode_of s.now ≡ Sets a (mode_of k.now)) }
     requires held { IsInForm bases.old instance (mode_of mode.now) (form f.old) }
@@ -139,7 +138,7 @@ fn include_pair(
     y: &Value,
     bases: &mut Bases,
     instance: u64,
-) -> Result<(), Memory>
+) -> Result<(), AllocError>
     requires mode { (a : Attribute) × (mode_of mode.now ≡ MultiMaps a (mode_of d.now) (mode_of s.now)) × (is_part (mode_of d.now) (datum x.now) ≡ true) }
     requires images { (a : Attribute) × (mode_of s.now ≡ Sets a (mode_of k.now)) × (is_part (mode_of k.now) (datum y.now) ≡ true) }
     requires held { IsInForm bases.old instance (mode_of mode.now) (form f.old) }
@@ -167,7 +166,7 @@ fn enter_pair(
     y: &Value,
     bases: &mut Bases,
     instance: u64,
-) -> Result<(), Memory>
+) -> Result<(), AllocError>
     requires mode { (a : Attribute) × (d : ModeState) × (mode_of mode.now ≡ MultiMaps a d (mode_of s.now)) × (is_part d (datum x.now) ≡ true) }
     requires images { (a : Attribute) × (k : ModeState) × (mode_of s.now ≡ Sets a k) × (is_part k (datum y.now) ≡ true) }
     requires held { IsInForm bases.old instance (mode_of mode.now) (form f.old) }
@@ -202,7 +201,7 @@ fn add_image(
     y: &Value,
     bases: &Bases,
     instance: u64,
-) -> Result<(), Memory>
+) -> Result<(), AllocError>
     requires table { (many : Bool) × (table_of (form f.old) ≡ Some (b, many)) }
     requires over { IsOver bases.now (form f.old) }
     requires point { IsSome (find (base_at bases.now b) (datum x.now)) }
@@ -237,7 +236,7 @@ fn first_image(
     y: &Value,
     bases: &Bases,
     instance: u64,
-) -> Result<Held, Memory>
+) -> Result<Held, AllocError>
     requires fits { datum_fits (mode_of s.now) (set_of (datum y.now ∷ [])) ≡ true }
     requires found { PlacesAreFound bases.now (named bases.now instance) (mode_of s.now) (set_of (datum y.now ∷ [])) }
     requires there { HasBases bases.now (named bases.now instance) (mode_of s.now) }
@@ -250,7 +249,7 @@ fn first_image(
 }
 
 // The set of one value. An error is want of memory, or that the value is 500 deep.
-fn set_of_one(alloc: Global, y: &Value) -> Result<Value, Memory>
+fn set_of_one(alloc: Global, y: &Value) -> Result<Value, AllocError>
     ensures { IfOk result (λ v. datum v ≡ set_of (datum y.now ∷ [])) }
 {
     let mut s = SetBody::new(alloc)?;

@@ -14,5 +14,4 @@ mod updating;
 pub use images::include_image;
 pub use maps::{cut, put};
 pub use sets::{exclude, include};
-pub use std::alloc::AllocError as Memory;
 pub use updating::{Change, update};

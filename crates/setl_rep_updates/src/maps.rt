@@ -21,7 +21,6 @@ ghost use Rattle.setl_rep_updates.specs.InForm.{IsInForm};
 ghost use Rattle.setl_rep_updates.specs.Updates.{is_part, puts, IsUpdate};
 ghost use Rattle.setl_rep_updates.specs.code.Imaged.{IsImagePut, IsPointCut};
 
-use crate::Memory;
 use setl_modes::Mode;
 use setl_modes_fit::fits;
 use setl_rep_based::handle;
@@ -47,7 +46,7 @@ pub fn put(
     y: &Value,
     bases: &mut Bases,
     instance: u64,
-) -> Result<bool, Memory>
+) -> Result<bool, AllocError>
     requires { IsInForm bases.old instance (mode_of mode.now) (form f.old) }
     ensures kernel { IfOk result (λ t. t ≡ puts (mode_of mode.now) (form f.old) (datum x.now) (datum y.now)) }
     ensures update { IsUpdate (mode_of mode.now) instance (op_of Put (stands bases.old (form f.old) ∷ Some (datum x.now) ∷ Some (datum y.now) ∷ [])) bases.old bases.new (form f.old) (form f.new) result }
@@ -69,7 +68,7 @@ fn put_in(
     y: &Value,
     bases: &mut Bases,
     instance: u64,
-) -> Result<bool, Memory>
+) -> Result<bool, AllocError>
     requires mode { (a : Attribute) × (mode_of mode.now ≡ SingleMaps a (mode_of d.now) (mode_of r.now)) }
     requires held { IsInForm bases.old instance (mode_of mode.now) (form f.old) }
     ensures kernel { IfOk result (λ t. t ≡ puts (mode_of mode.now) (form f.old) (datum x.now) (datum y.now)) }
@@ -96,7 +95,7 @@ fn put_in(
 }
 
 /// Whether a value is put into a map, where its mode is this one. An error is want of memory.
-pub(crate) fn is_part(m: &Mode, x: &Value) -> Result<bool, Memory>
+pub(crate) fn is_part(m: &Mode, x: &Value) -> Result<bool, AllocError>
     ensures { IfOk result (λ t. t ≡ is_part (mode_of m.now) (datum x.now)) }
 {
     if x.depth() < 499 {
@@ -118,7 +117,7 @@ fn put_pair(
     y: &Value,
     bases: &mut Bases,
     instance: u64,
-) -> Result<(), Memory>
+) -> Result<(), AllocError>
     requires mode { (a : Attribute) × (mode_of mode.now ≡ SingleMaps a (mode_of d.now) (mode_of r.now)) }
     requires held { IsInForm bases.old instance (mode_of mode.now) (form f.old) }
     requires taken { puts (mode_of mode.now) (form f.old) (datum x.now) (datum y.now) ≡ true }
@@ -146,7 +145,7 @@ fn enter_pair(
     y: &Value,
     bases: &mut Bases,
     instance: u64,
-) -> Result<(), Memory>
+) -> Result<(), AllocError>
     requires mode { (a : Attribute) × (d : ModeState) × (mode_of mode.now ≡ SingleMaps a d (mode_of r.now)) }
     requires held { IsInForm bases.old instance (mode_of mode.now) (form f.old) }
     requires taken { puts (mode_of mode.now) (form f.old) (datum x.now) (datum y.now) ≡ true }
@@ -171,7 +170,7 @@ fn enter_pair(
 }
 
 /// The set of one pair. An error is want of memory.
-pub(crate) fn set_of_pair(alloc: Global, x: &Value, y: &Value) -> Result<Value, Memory>
+pub(crate) fn set_of_pair(alloc: Global, x: &Value, y: &Value) -> Result<Value, AllocError>
     requires { (depth (datum x.now) < 499) × (depth (datum y.now) < 499) }
     ensures { IfOk result (λ v. datum v ≡ set_of (pair (datum x.now) (datum y.now) ∷ [])) }
 {
@@ -193,7 +192,7 @@ fn put_image(
     y: &Value,
     bases: &Bases,
     instance: u64,
-) -> Result<(), Memory>
+) -> Result<(), AllocError>
     requires table { (many : Bool) × (table_of (form f.old) ≡ Some (b, many)) }
     requires over { IsOver bases.now (form f.old) }
     requires point { IsSome (find (base_at bases.now b) (datum x.now)) }
@@ -215,7 +214,7 @@ fn put_image(
 ///
 /// Ok(false) comes where the map isn't held so. After that, and after want of memory, which is the error, the map is as before.
 /// Nothing is charged, and no base changes. Where nobody else holds the table, the cost is near linear in the size of `x` alone.
-pub fn cut(f: &mut Held, x: &Value, bases: &Bases) -> Result<bool, Memory>
+pub fn cut(f: &mut Held, x: &Value, bases: &Bases) -> Result<bool, AllocError>
     requires { IsOver bases.now (form f.old) }
     ensures kernel { IfOk result (λ t. t ≡ is_some (table_of (form f.old))) }
     ensures update { (m : ModeState) (n : ℕ) → IsInForm bases.now n m (form f.old) → IsUpdate m n (op_of Put (stands bases.now (form f.old) ∷ Some (datum x.now) ∷ None ∷ [])) bases.now bases.now (form f.old) (form f.new) result }
@@ -235,7 +234,7 @@ pub fn cut(f: &mut Held, x: &Value, bases: &Bases) -> Result<bool, Memory>
 }
 
 // Takes the images of a point out of a map on the base `b`. After an error, which is want of memory, the map is as before.
-fn cut_point(b: BaseId, f: &mut Held, x: &Value, bases: &Bases) -> Result<(), Memory>
+fn cut_point(b: BaseId, f: &mut Held, x: &Value, bases: &Bases) -> Result<(), AllocError>
     requires table { (many : Bool) × (table_of (form f.old) ≡ Some (b, many)) }
     requires over { IsOver bases.now (form f.old) }
     ensures cut { OnOk result (IsPointCut bases.now b (datum x.now) (form f.old) (form f.new)) }

@@ -13,7 +13,6 @@ ghost use Rattle.setl_rep_forms.specs.FormOf.{form};
 ghost use Rattle.setl_rep_forms.specs.Stands.{AreLiving};
 ghost use Rattle.setl_rep_updates.specs.code.Added.{AreNumbersWith, IsWithMember, TakesMember};
 
-use crate::Memory;
 use setl_remote::Bits;
 use setl_rep_based::{handle, put_in_bits, put_in_table};
 use setl_rep_bases::{BaseId, Bases};
@@ -31,7 +30,7 @@ pub(crate) fn include_member(
     set: &mut Held,
     y: &Value,
     bases: &Bases,
-) -> Result<(), Memory>
+) -> Result<(), AllocError>
     requires { TakesMember bases.now (form set.old) (datum y.now) }
     ensures with { OnOk result (IsWithMember bases.now (datum y.now) (form set.old) (form set.new)) }
     ensures refused { OnErr result (form set.new ≡ form set.old) }
@@ -45,7 +44,7 @@ pub(crate) fn include_member(
 }
 
 // The same in a remote set.
-fn include_in_remote(b: BaseId, bits: &mut Bits, y: &Value, bases: &Bases) -> Result<(), Memory>
+fn include_in_remote(b: BaseId, bits: &mut Bits, y: &Value, bases: &Bases) -> Result<(), AllocError>
     requires there { IsThere bases.now b }
     requires living { AreLiving (base_at bases.now b) bits.old }
     requires found { IsSome (find (base_at bases.now b) (datum y.now)) }
@@ -63,7 +62,7 @@ fn include_in_sparse(
     shared: &mut Rc<SparseSet>,
     y: &Value,
     bases: &Bases,
-) -> Result<(), Memory>
+) -> Result<(), AllocError>
     requires there { IsThere bases.now b }
     requires living { AreLiving (base_at bases.now b) shared.old.value }
     requires found { IsSome (find (base_at bases.now b) (datum y.now)) }
@@ -76,7 +75,7 @@ fn include_in_sparse(
 }
 
 // The same in a plain set.
-fn include_in_plain(alloc: Global, members: &mut SetBody, y: &Value) -> Result<(), Memory>
+fn include_in_plain(alloc: Global, members: &mut SetBody, y: &Value) -> Result<(), AllocError>
     ensures with { (bs : BasesState) → OnOk result (IsWithMember bs (datum y.now) (form (held.Plain (value.Set members.old))) (form (held.Plain (value.Set members.new)))) }
     ensures refused { OnErr result (members.new ≡ members.old) }
 {
@@ -86,7 +85,7 @@ fn include_in_plain(alloc: Global, members: &mut SetBody, y: &Value) -> Result<(
 }
 
 // The same in the numbers of a remote set.
-fn put_in_remote(b: BaseId, bits: &mut Bits, y: &Value, bases: &Bases) -> Result<(), Memory>
+fn put_in_remote(b: BaseId, bits: &mut Bits, y: &Value, bases: &Bases) -> Result<(), AllocError>
     requires there { IsThere bases.now b }
     requires living { AreLiving (base_at bases.now b) bits.old }
     requires found { IsSome (find (base_at bases.now b) (datum y.now)) }
@@ -103,7 +102,7 @@ fn put_in_sparse(
     shared: &mut Rc<SparseSet>,
     y: &Value,
     bases: &Bases,
-) -> Result<(), Memory>
+) -> Result<(), AllocError>
     requires there { IsThere bases.now b }
     requires living { AreLiving (base_at bases.now b) shared.old.value }
     requires found { IsSome (find (base_at bases.now b) (datum y.now)) }
@@ -115,7 +114,7 @@ fn put_in_sparse(
 }
 
 // The same in a plain set.
-fn put_in_plain(alloc: Global, members: &mut SetBody, y: &Value) -> Result<(), Memory>
+fn put_in_plain(alloc: Global, members: &mut SetBody, y: &Value) -> Result<(), AllocError>
     ensures with { OnOk result (Members members.new ≡ insert_datum (datum y.now) (Members members.old)) }
     ensures refused { OnErr result (members.new ≡ members.old) }
 {

@@ -20,7 +20,6 @@ ghost use Rattle.setl_rep_updates.specs.InForm.{IsInForm};
 ghost use Rattle.setl_rep_updates.specs.Updates.{includes, includes_one, IsUpdate};
 ghost use Rattle.setl_rep_updates.specs.code.Entered.{HasNumbersOf, IsElementOn, IsPutIn};
 
-use crate::Memory;
 use setl_modes::Mode;
 use setl_modes_fit::fits;
 use setl_rep_based::handle;
@@ -43,7 +42,7 @@ pub fn include(
     x: &Value,
     bases: &mut Bases,
     instance: u64,
-) -> Result<bool, Memory>
+) -> Result<bool, AllocError>
     requires { IsInForm bases.old instance (mode_of mode.now) (form s.old) }
     ensures kernel { IfOk result (λ t. t ≡ includes (mode_of mode.now) (form s.old) (datum x.now)) }
     ensures update { IsUpdate (mode_of mode.now) instance (op_of With (stands bases.old (form s.old) ∷ Some (datum x.now) ∷ [])) bases.old bases.new (form s.old) (form s.new) result }
@@ -62,7 +61,7 @@ fn include_in(
     x: &Value,
     bases: &mut Bases,
     instance: u64,
-) -> Result<bool, Memory>
+) -> Result<bool, AllocError>
     requires { (a : Attribute) × IsInForm bases.old instance (Sets a (mode_of m.now)) (form s.old) }
     ensures kernel { IfOk result (λ t. t ≡ includes_one (mode_of m.now) (form s.old) (datum x.now)) }
     ensures update { (a : Attribute) → IsInForm bases.old instance (Sets a (mode_of m.now)) (form s.old) → IsUpdate (Sets a (mode_of m.now)) instance (op_of With (stands bases.old (form s.old) ∷ Some (datum x.now) ∷ [])) bases.old bases.new (form s.old) (form s.new) result }
@@ -95,7 +94,7 @@ fn base_of(mode: &Mode) -> Option<u32>
 }
 
 // Whether a value is taken into a set of elements of this mode. An error is want of memory.
-fn takes(m: &Mode, s: &Held, x: &Value) -> Result<bool, Memory>
+fn takes(m: &Mode, s: &Held, x: &Value) -> Result<bool, AllocError>
     ensures { IfOk result (λ t. t ≡ (is_numbered (form s.now) && (nat_lt (depth (datum x.now)) 500 && datum_fits (mode_of m.now) (datum x.now)))) }
 {
     if is_numbered(s) && x.depth() < 500 {
@@ -124,7 +123,7 @@ fn put_in(
     x: &Value,
     bases: &mut Bases,
     instance: u64,
-) -> Result<(), Memory>
+) -> Result<(), AllocError>
     requires element { IsElementOn (named bases.old instance) b (mode_of m.now) }
     requires there { BasesAreThere bases.old instance (mode_of m.now) }
     requires fits { datum_fits (mode_of m.now) (datum x.now) ≡ true }
@@ -151,7 +150,7 @@ fn enter_and_put(
     x: &Value,
     bases: &mut Bases,
     instance: u64,
-) -> Result<(), Memory>
+) -> Result<(), AllocError>
     requires element { IsElementOn (named bases.old instance) b (mode_of m.now) }
     requires there { BasesAreThere bases.old instance (mode_of m.now) }
     requires fits { datum_fits (mode_of m.now) (datum x.now) ≡ true }
@@ -177,7 +176,7 @@ fn enter_and_put(
 
 // Puts a member of its base into a set of numbers. After an error, which is want of memory or that the value is 500 deep, the
 // set is as before.
-fn put_member(s: &mut Held, b: BaseId, x: &Value, bases: &Bases) -> Result<(), Memory>
+fn put_member(s: &mut Held, b: BaseId, x: &Value, bases: &Bases) -> Result<(), AllocError>
     requires numbers { HasNumbersOf b (form s.old) }
     requires over { IsOver bases.now (form s.old) }
     requires shallow { part_depth (stands bases.now (form s.old)) ≤ 500 }
@@ -199,7 +198,7 @@ fn put_member(s: &mut Held, b: BaseId, x: &Value, bases: &Bases) -> Result<(), M
 ///
 /// Ok(false) comes where the set isn't held so. After that, and after want of memory, which is the error, the set is as before.
 /// Nothing is charged, and no base changes. Where nobody else holds the set, the cost is near linear in the size of `x` alone.
-pub fn exclude(s: &mut Held, x: &Value, bases: &Bases) -> Result<bool, Memory>
+pub fn exclude(s: &mut Held, x: &Value, bases: &Bases) -> Result<bool, AllocError>
     requires over { IsOver bases.now (form s.old) }
     requires shallow { part_depth (stands bases.now (form s.old)) ≤ 500 }
     ensures kernel { IfOk result (λ t. t ≡ is_numbered (form s.old)) }

@@ -11,7 +11,6 @@ ghost use Rattle.setl_rep_updates.specs.Changed.{given_by, makes, puts_part};
 ghost use Rattle.setl_rep_updates.specs.InForm.{IsInForm};
 ghost use Rattle.setl_rep_updates.specs.Updates.{IsUpdate};
 
-use crate::Memory;
 use crate::images::include_image;
 use crate::maps::{cut, put};
 use crate::sets::{exclude, include};
@@ -19,7 +18,7 @@ use setl_modes::Mode;
 use setl_rep_bases::Bases;
 use setl_rep_forms::Held;
 use setl_value::Value;
-use std::alloc::Global;
+use std::alloc::{AllocError, Global};
 
 /// What is done to a set or a map.
 #[derive(Drop)]
@@ -48,7 +47,7 @@ pub fn update(
     change: &Change,
     bases: &mut Bases,
     instance: u64,
-) -> Result<bool, Memory>
+) -> Result<bool, AllocError>
     requires { IsInForm bases.old instance (mode_of mode.now) (form held.old) }
     ensures kernel { IfOk result (λ t. t ≡ makes (mode_of mode.now) (form held.old) change.now) }
     ensures update { IsUpdate (mode_of mode.now) instance (given_by change.now (stands bases.old (form held.old))) bases.old bases.new (form held.old) (form held.new) result }
@@ -71,7 +70,7 @@ fn put_part(
     y: &Option<Value>,
     bases: &mut Bases,
     instance: u64,
-) -> Result<bool, Memory>
+) -> Result<bool, AllocError>
     requires { IsInForm bases.old instance (mode_of mode.now) (form f.old) }
     ensures kernel { IfOk result (λ t. t ≡ puts_part (mode_of mode.now) (form f.old) x.now y.now) }
     ensures update { IsUpdate (mode_of mode.now) instance (op_of Put (stands bases.old (form f.old) ∷ Some (datum x.now) ∷ part y.now ∷ [])) bases.old bases.new (form f.old) (form f.new) result }

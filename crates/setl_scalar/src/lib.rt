@@ -5,7 +5,7 @@ mod integers;
 mod texts;
 
 pub use integers::{abs, add, div, modulo, mul, neg, power, sub};
-use setl_value::Memory;
+use std::alloc::AllocError;
 pub use texts::{cat, repeat, slice};
 
 /// Why an operator gave no value.
@@ -21,13 +21,13 @@ pub enum ScalarFault {
     NoMemory,
 }
 
-impl From<Memory> for ScalarFault {
+impl From<AllocError> for ScalarFault {
     ghost use Rattle.std.specs.Prelude.{◌≡◌};
     ghost use Rattle.setl_scalar.specs.declared.ScalarFault.TheVariants.{NoMemory};
 
     ghost from_gives = { λ _ e. e ≡ NoMemory };
 
-    fn from(_e: Memory) -> ScalarFault {
+    fn from(_e: AllocError) -> ScalarFault {
         ScalarFault::NoMemory
     }
 }

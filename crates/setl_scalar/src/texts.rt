@@ -4,8 +4,8 @@ ghost use Rattle.setl_value.specs.Copies.{copies};
 ghost use Rattle.setl_scalar.specs.Texts.{repeat_of, slice_of};
 
 use crate::ScalarFault;
-use setl_value::{Memory, Text};
-use std::alloc::Global;
+use setl_value::Text;
+use std::alloc::{AllocError, Global};
 
 /// The bytes of `a`, then those of `b`. The only fault is NoMemory.
 pub fn cat(alloc: Global, a: &Text, b: &Text) -> Result<Text, ScalarFault>
@@ -19,7 +19,7 @@ pub fn cat(alloc: Global, a: &Text, b: &Text) -> Result<Text, ScalarFault>
 }
 
 /// The bytes of `left`, then those of `right`.
-fn joined(alloc: Global, left: &[u8], right: &[u8]) -> Result<Vec<u8>, Memory>
+fn joined(alloc: Global, left: &[u8], right: &[u8]) -> Result<Vec<u8>, AllocError>
     ensures { IfOk result (λ v. v.items ≡ left.now ++ right.now) }
 {
     let mut all = Vec::with_capacity(alloc, left.len().saturating_add(right.len()))?;
@@ -45,17 +45,17 @@ pub fn repeat(alloc: Global, a: &Text, n: i128) -> Result<Text, ScalarFault>
 }
 
 /// `n` copies of `bytes`, one after another.
-fn copied(alloc: Global, bytes: &[u8], n: u128) -> Result<Vec<u8>, Memory>
+fn copied(alloc: Global, bytes: &[u8], n: u128) -> Result<Vec<u8>, AllocError>
     ensures { IfOk result (λ v. v.items ≡ copies n bytes.now) }
 {
     if bytes.is_empty() {
         return Ok(Vec::new(alloc));
     }
     let Ok(n) = usize::try_from(n) else {
-        return Err(Memory);
+        return Err(AllocError);
     };
     let Some(len) = n.checked_mul(bytes.len()) else {
-        return Err(Memory);
+        return Err(AllocError);
     };
     let mut all = Vec::with_capacity(alloc, len)?;
     for _ in 0..n {

@@ -19,7 +19,7 @@ pub use member::{has, less, with};
 pub use merge::{meet, minus, symm, union};
 pub use power::{npow, pow};
 pub use rising::{Rising, subset, walk};
-pub use std::alloc::AllocError as Memory;
+use std::alloc::AllocError;
 
 /// Why a set can't be made.
 #[derive(Clone, Copy, Debug, PartialEq, Eq)]
@@ -30,13 +30,13 @@ pub enum SetFault {
     NoMemory,
 }
 
-impl From<Memory> for SetFault {
+impl From<AllocError> for SetFault {
     ghost use Rattle.std.specs.Prelude.{◌≡◌};
     ghost use Rattle.setl_set.specs.declared.SetFault.TheVariants.{NoMemory};
 
     ghost from_gives = { λ _ e. e ≡ NoMemory };
 
-    fn from(_e: Memory) -> SetFault {
+    fn from(_e: AllocError) -> SetFault {
         SetFault::NoMemory
     }
 }

@@ -6,9 +6,9 @@ ghost use Rattle.setl_value.specs.Datum.{depth};
 ghost use Rattle.setl_value.specs.code.DatumOf.{datum};
 ghost use Rattle.setl_set.specs.Sets.{has_datum, insert_datum, remove_datum};
 
-use crate::{Memory, SetFault};
+use crate::SetFault;
 use setl_value::{SetBody, Value};
-use std::alloc::Global;
+use std::alloc::{AllocError, Global};
 
 /// Whether `v` is a member. It takes no memory.
 pub fn has(s: &SetBody, v: &Value) -> bool
@@ -40,7 +40,7 @@ pub fn with(alloc: Global, s: &mut SetBody, v: Value) -> Result<(), SetFault>
 
 /// Takes `v` out; nothing changes where it is no member, and no memory is taken then. After a fault the set is as
 /// before.
-pub fn less(s: &mut SetBody, v: &Value) -> Result<(), Memory>
+pub fn less(s: &mut SetBody, v: &Value) -> Result<(), AllocError>
     ensures removed { OnOk result (Members s.new ≡ remove_datum (datum v.now) (Members s.old)) }
     ensures refused { OnErr result (s.new ≡ s.old) }
 {

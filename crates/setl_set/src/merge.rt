@@ -7,14 +7,13 @@ ghost use Rattle.setl_value.specs.code.DatumOf.{datum};
 ghost use Rattle.setl_set.specs.code.Merge.{IsMerge, kept_if, front};
 ghost use Rattle.setl_set.specs.Sets.{union_of, minus_of, meet_of, symm_of};
 
-use crate::Memory;
 use crate::searching::{chosen_by_search, is_small, minus_by_search, union_by_search};
 use setl_value::{MemberIter, SetBody, Value};
-use std::alloc::Global;
+use std::alloc::{AllocError, Global};
 use std::cmp::Ordering;
 
 /// The members of `a` or `b`.
-pub fn union(alloc: Global, a: &SetBody, b: &SetBody) -> Result<SetBody, Memory>
+pub fn union(alloc: Global, a: &SetBody, b: &SetBody) -> Result<SetBody, AllocError>
     ensures { IfOk result (λ s. Members s ≡ union_of (Members a.now) (Members b.now)) }
 {
     if is_small(b, a) {
@@ -27,7 +26,7 @@ pub fn union(alloc: Global, a: &SetBody, b: &SetBody) -> Result<SetBody, Memory>
 }
 
 /// The members of `a` that aren't in `b`.
-pub fn minus(alloc: Global, a: &SetBody, b: &SetBody) -> Result<SetBody, Memory>
+pub fn minus(alloc: Global, a: &SetBody, b: &SetBody) -> Result<SetBody, AllocError>
     ensures { IfOk result (λ s. Members s ≡ minus_of (Members a.now) (Members b.now)) }
 {
     a.learn();
@@ -41,7 +40,7 @@ pub fn minus(alloc: Global, a: &SetBody, b: &SetBody) -> Result<SetBody, Memory>
 }
 
 /// The members of both `a` and `b`.
-pub fn meet(alloc: Global, a: &SetBody, b: &SetBody) -> Result<SetBody, Memory>
+pub fn meet(alloc: Global, a: &SetBody, b: &SetBody) -> Result<SetBody, AllocError>
     ensures { IfOk result (λ s. Members s ≡ meet_of (Members a.now) (Members b.now)) }
 {
     a.learn();
@@ -56,7 +55,7 @@ pub fn meet(alloc: Global, a: &SetBody, b: &SetBody) -> Result<SetBody, Memory>
 }
 
 /// The members of exactly one of `a` and `b`.
-pub fn symm(alloc: Global, a: &SetBody, b: &SetBody) -> Result<SetBody, Memory>
+pub fn symm(alloc: Global, a: &SetBody, b: &SetBody) -> Result<SetBody, AllocError>
     ensures { IfOk result (λ s. Members s ≡ symm_of (Members a.now) (Members b.now)) }
 {
     if is_small(a, b) || is_small(b, a) {
@@ -100,7 +99,7 @@ const SYMM: Keep = Keep {
 };
 
 // The members of the two sets that are kept. Its cost is the sum of their sizes.
-fn merge(alloc: Global, a: &SetBody, b: &SetBody, keep: Keep) -> Result<SetBody, Memory>
+fn merge(alloc: Global, a: &SetBody, b: &SetBody, keep: Keep) -> Result<SetBody, AllocError>
     ensures { IfOk result (λ s. IsMerge keep (Members a.now) (Members b.now) (Members s)) }
 {
     a.learn();
@@ -133,7 +132,7 @@ fn merge(alloc: Global, a: &SetBody, b: &SetBody, keep: Keep) -> Result<SetBody,
 }
 
 // Puts a copy of `v` at the end, if it is kept.
-pub(crate) fn keep_if(keep: bool, v: &Value, kept: &mut Vec<Value>) -> Result<(), Memory>
+pub(crate) fn keep_if(keep: bool, v: &Value, kept: &mut Vec<Value>) -> Result<(), AllocError>
     ensures { OnOk result (map datum kept.new.items ≡ map datum kept.old.items ++ kept_if keep (datum v.now ∷ [])) }
 {
     if keep {
@@ -148,7 +147,7 @@ fn keep_rest(
     first: Option<&Value>,
     rest: MemberIter<'_>,
     kept: &mut Vec<Value>,
-) -> Result<(), Memory>
+) -> Result<(), AllocError>
     ensures { OnOk result (map datum kept.new.items ≡ map datum kept.old.items ++ kept_if keep (front first.entry rest.entry)) }
 {
     if let Some(v) = first {
@@ -161,7 +160,7 @@ fn keep_rest(
 }
 
 // Puts copies of all members that are left at the end.
-pub(crate) fn copy_all(rest: MemberIter<'_>, kept: &mut Vec<Value>) -> Result<(), Memory>
+pub(crate) fn copy_all(rest: MemberIter<'_>, kept: &mut Vec<Value>) -> Result<(), AllocError>
     ensures { OnOk result (map datum kept.new.items ≡ map datum kept.old.items ++ rest.entry) }
 {
     for v in rest {

@@ -9,10 +9,10 @@ ghost use Rattle.setl_set.specs.code.Choice.{members_at, ArePlaces, IsFull};
 ghost use Rattle.setl_set.specs.code.Merge.{kept_if};
 ghost use Rattle.setl_set.specs.Subsets.{pow_of, npow_of, set_of_sets, subsets_between};
 
+use crate::SetFault;
 use crate::merge::copy_all;
-use crate::{Memory, SetFault};
 use setl_value::{SetBody, Value};
-use std::alloc::Global;
+use std::alloc::{AllocError, Global};
 
 /// The set of all subsets. `Deep` comes exactly where its depth would be above 500, and that is where `s` has the depth
 /// 500, since `s` is a subset of itself. The cost is the number of subsets times their sizes.
@@ -60,7 +60,7 @@ fn is_deep(s: &SetBody, least: usize, most: usize) -> bool
 // The set of all subsets with at least `least` and at most `most` members, which are found in the canonical order:
 // `chosen` has the places of the members of a subset, and the next one has one more place after them, or else a later
 // one in place of the last.
-fn subsets(alloc: Global, s: &SetBody, least: usize, most: usize) -> Result<SetBody, Memory>
+fn subsets(alloc: Global, s: &SetBody, least: usize, most: usize) -> Result<SetBody, AllocError>
     requires { depth (set_of (set_of_sets (subsets_between least most (Members s.now)))) ≤ 500 }
     ensures { IfOk result (λ p. Members p ≡ set_of_sets (subsets_between least most (Members s.now))) }
 {
@@ -104,7 +104,7 @@ fn add_chosen(
     least: usize,
     places: &[usize],
     sets: &mut Vec<Value>,
-) -> Result<(), Memory>
+) -> Result<(), AllocError>
     requires members { map datum members.now ≡ Members s.now }
     requires places { ArePlaces 0 places.now (length (Members s.now)) }
     ensures { OnOk result (map datum sets.new.items ≡ map datum sets.old.items ++ kept_if (nat_le least (length places.now)) (set_of (members_at (Members s.now) places.now) ∷ [])) }
@@ -119,7 +119,7 @@ fn add_chosen(
 }
 
 // Copies of the members at these places.
-fn copies_at(alloc: Global, members: &[Value], places: &[usize]) -> Result<Vec<Value>, Memory>
+fn copies_at(alloc: Global, members: &[Value], places: &[usize]) -> Result<Vec<Value>, AllocError>
     requires { All (λ i. i < length members.now) places.now }
     ensures { IfOk result (λ subset. map datum subset.items ≡ members_at (map datum members.now) places.now) }
 {

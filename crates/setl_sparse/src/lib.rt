@@ -9,4 +9,3 @@ mod set;
 
 pub use map::SparseMap;
 pub use set::SparseSet;
-pub use std::alloc::AllocError as Memory;

@@ -5,10 +5,9 @@ ghost use Rattle.std.specs.Map.{keys_of, values_of};
 ghost use Rattle.std.specs.List.Sorted.{IsStrictlyIncreasing};
 ghost use Rattle.setl_sparse.specs.Entries.{content_at, Puts, IsTable, AreCopies};
 
-use crate::Memory;
 use crate::set::rising;
 use indexmap::IndexSet;
-use std::alloc::Global;
+use std::alloc::{AllocError, Global};
 use std::marker::Model;
 use std::mem;
 
@@ -41,7 +40,7 @@ fn push<T: Drop>(
     contents: &mut Vec<T>,
     block: u64,
     content: T,
-) -> Result<(), Memory>
+) -> Result<(), AllocError>
     requires table { IsTable numbers.old.keys contents.old.items }
     requires absent { list_any (nat_eq block) numbers.old.keys ≡ false }
     ensures table { IsTable numbers.new.keys contents.new.items }
@@ -60,7 +59,7 @@ fn fill<T: Drop>(
     contents: &mut Vec<T>,
     block: u64,
     content: T,
-) -> Result<Option<T>, Memory>
+) -> Result<Option<T>, AllocError>
     requires { IsTable numbers.old.keys contents.old.items }
     ensures table { IsTable numbers.new.keys contents.new.items }
     ensures old { IfOk result (λ old. old ≡ content_at (zip numbers.old.keys contents.old.items) block) }
@@ -89,7 +88,7 @@ fn take_out<T>(numbers: &mut IndexSet<u64>, contents: &mut Vec<T>, block: u64) -
 
 impl<T> SparseMap<T> {
     /// No contents. An error is want of memory.
-    pub fn new(alloc: Global) -> Result<SparseMap<T>, Memory>
+    pub fn new(alloc: Global) -> Result<SparseMap<T>, AllocError>
         ensures { IfOk result (λ m. m ≡ []) }
     {
         Ok(SparseMap {
@@ -115,7 +114,7 @@ impl<T> SparseMap<T> {
     }
 
     /// The numbers that have a content, rising. An error is want of memory.
-    pub fn numbers(&self, alloc: Global) -> Result<Vec<u64>, Memory>
+    pub fn numbers(&self, alloc: Global) -> Result<Vec<u64>, AllocError>
         ensures rising { IfOk result (λ numbers. IsStrictlyIncreasing numbers.items) }
         ensures members { IfOk result (λ numbers. (n : ℕ) → list_any (nat_eq n) numbers.items ≡ is_some (content_at self.now n)) }
     {
@@ -161,7 +160,7 @@ impl<T: Clone> Clone for SparseMap<T> {
     ghost is_clone = { AreCopies T.is_clone };
 
     /// The numbers, each with a copy of its content, in the same order. An error is want of memory.
-    fn clone(&self) -> Result<SparseMap<T>, Memory> {
+    fn clone(&self) -> Result<SparseMap<T>, AllocError> {
         Ok(SparseMap {
             numbers: self.numbers.clone()?,
             contents: self.contents.clone()?,
@@ -172,7 +171,7 @@ impl<T: Clone> Clone for SparseMap<T> {
 impl<T: Drop> SparseMap<T> {
     /// Gives the number the content `c`, or none, and gives back its old content; `None` where it had none. An error is
     /// want of memory.
-    pub fn put(&mut self, block: u64, c: Option<T>) -> Result<Option<T>, Memory>
+    pub fn put(&mut self, block: u64, c: Option<T>) -> Result<Option<T>, AllocError>
         ensures old { IfOk result (λ old. old ≡ content_at self.old block) }
         ensures ok { OnOk result (Puts block c self.old self.new) }
         ensures err { OnErr result (self.new ≡ self.old) }

@@ -3,9 +3,8 @@ ghost use Rattle.std.specs.Prelude.{◌≡◌, IfOk, OnOk, OnErr};
 ghost use Rattle.std.specs.List.Sorted.{IsPermutation, IsStrictlyIncreasing};
 ghost use Rattle.std.specs.FinSet as set;
 
-use crate::Memory;
 use indexmap::IndexSet;
-use std::alloc::Global;
+use std::alloc::{AllocError, Global};
 use std::marker::Model;
 
 /// A set of block numbers.
@@ -28,7 +27,7 @@ impl Model for SparseSet {
 
 impl SparseSet {
     /// No numbers. An error is want of memory.
-    pub fn new(alloc: Global) -> Result<SparseSet, Memory>
+    pub fn new(alloc: Global) -> Result<SparseSet, AllocError>
         ensures { IfOk result (λ s. s ≡ set.empty) }
     {
         Ok(SparseSet {
@@ -44,7 +43,7 @@ impl SparseSet {
     }
 
     /// Puts the number in. An error is want of memory.
-    pub fn put(&mut self, block: u64) -> Result<(), Memory>
+    pub fn put(&mut self, block: u64) -> Result<(), AllocError>
         ensures ok { OnOk result (self.new ≡ set.insert self.old block) }
         ensures err { OnErr result (self.new ≡ self.old) }
     {
@@ -53,7 +52,7 @@ impl SparseSet {
     }
 
     /// Takes the number out. An error is want of memory.
-    pub fn cut(&mut self, block: u64) -> Result<(), Memory>
+    pub fn cut(&mut self, block: u64) -> Result<(), AllocError>
         ensures ok { OnOk result (self.new ≡ set.remove self.old block) }
         ensures err { OnErr result (self.new ≡ self.old) }
     {
@@ -62,7 +61,7 @@ impl SparseSet {
     }
 
     /// The numbers, rising. An error is want of memory.
-    pub fn numbers(&self, alloc: Global) -> Result<Vec<u64>, Memory>
+    pub fn numbers(&self, alloc: Global) -> Result<Vec<u64>, AllocError>
         ensures rising { IfOk result (λ numbers. IsStrictlyIncreasing numbers.items) }
         ensures members { IfOk result (λ numbers. set.from_list numbers.items ≡ self.now) }
     {
@@ -74,7 +73,7 @@ impl Clone for SparseSet {
     ghost is_clone = { λ s copy. copy ≡ s };
 
     /// The same numbers. An error is want of memory.
-    fn clone(&self) -> Result<SparseSet, Memory> {
+    fn clone(&self) -> Result<SparseSet, AllocError> {
         Ok(SparseSet {
             numbers: self.numbers.clone()?,
         })
@@ -82,7 +81,7 @@ impl Clone for SparseSet {
 }
 
 /// The numbers of a table, rising.
-pub(crate) fn rising(alloc: Global, table: &IndexSet<u64>) -> Result<Vec<u64>, Memory>
+pub(crate) fn rising(alloc: Global, table: &IndexSet<u64>) -> Result<Vec<u64>, AllocError>
     ensures rising { IfOk result (λ numbers. IsStrictlyIncreasing numbers.items) }
     ensures members { IfOk result (λ numbers. IsPermutation table.now.keys numbers.items) }
 {

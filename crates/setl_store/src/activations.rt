@@ -10,7 +10,6 @@ use crate::cells::{Contents, Frame};
 use crate::changes::{reserve_one_more, reserve_sum};
 use crate::lent::members_below;
 use crate::store::held;
-use setl_store_environment::Memory;
 use setl_store_operands::operand;
 use setl_store_slots::Held;
 use setl_value::Value;
@@ -25,7 +24,7 @@ pub(crate) fn innermost(environment: &Contents) -> Frame
 }
 
 /// Adds so many slots that are `om`.
-pub(crate) fn add_cleared(environment: &mut Contents, count: usize) -> Result<(), Memory>
+pub(crate) fn add_cleared(environment: &mut Contents, count: usize) -> Result<(), AllocError>
     ensures slots { OnOk result (environment.new.now.slots ≡ environment.old.now.slots ++ replicate count slot.Om) }
     ensures rest { OnOk result (environment.new.now ≡ record environment.old.now { slots = environment.new.now.slots }) }
     ensures kept { environment.new.kept ≡ environment.old.kept }
@@ -42,7 +41,7 @@ pub(crate) fn add_activation(
     frame: Frame,
     values: Vec<Option<Value>>,
     names: usize,
-) -> Result<(), Memory>
+) -> Result<(), AllocError>
     ensures slots { OnOk result (environment.new.now.slots ≡ environment.old.now.slots ++ (map held_by values.items ++ replicate names slot.Om)) }
     ensures rest { OnOk result (environment.new.now ≡ record environment.old.now { slots = environment.new.now.slots; activations = environment.old.now.activations ++ frame ∷ [] }) }
     ensures kept { environment.new.kept ≡ environment.old.kept }
@@ -57,7 +56,11 @@ pub(crate) fn add_activation(
 
 // Makes sure of memory for an activation with so many slots. The error is want of memory, or that these are 2^64 or more,
 // which no memory holds.
-fn reserve_activation(environment: &mut Contents, values: usize, names: usize) -> Result<(), Memory>
+fn reserve_activation(
+    environment: &mut Contents,
+    values: usize,
+    names: usize,
+) -> Result<(), AllocError>
     ensures now { environment.new.now ≡ environment.old.now }
     ensures kept { environment.new.kept ≡ environment.old.kept }
     ensures ready { OnOk result (values + names + 1 ≤ environment.new.ready) }
@@ -124,7 +127,7 @@ pub(crate) fn end_activation(
     frame: Frame,
     members: usize,
     values: Vec<Option<Value>>,
-) -> Result<(), Memory>
+) -> Result<(), AllocError>
     requires some { 0 < length environment.old.now.activations }
     requires slots { frame.slots ≤ length environment.old.now.slots }
     requires operands { frame.operands ≤ length environment.old.now.operands }

@@ -8,7 +8,6 @@ ghost use Rattle.setl_store.specs.Standing.{kept, Restored, Forgotten, Becomes};
 
 use crate::cells::{Contents, Kept};
 use crate::store::Store;
-use setl_store_environment::Memory;
 use setl_store_operands::Operand;
 use setl_value::Value;
 use std::alloc::AllocError;
@@ -20,7 +19,7 @@ impl<'c> Store<'c> {
     /// Keeps all that there is, as `ok` does, and goes on behind the step in hand with `true` pushed.
     ///
     /// The error is want of memory, or that something was kept 2^63 - 1 times, which no run does, and then all is as before.
-    pub fn keep(&mut self) -> Result<(), Memory>
+    pub fn keep(&mut self) -> Result<(), AllocError>
         requires { self.old.core.now.at + 1 < 2 ^ 64 }
         ensures { Becomes result self.old self.new (record self.old { core = kept self.old.core }) }
     {
@@ -79,7 +78,7 @@ impl<'c> Store<'c> {
 }
 
 // Keeps what is there and on it `false`, which `fail` then brings back too, and goes on with `true` in its place.
-fn keep_answering(environment: &mut Contents, beside: Kept) -> Result<(), Memory>
+fn keep_answering(environment: &mut Contents, beside: Kept) -> Result<(), AllocError>
     ensures now { OnOk result (environment.new.now ≡ answering environment.old.now true) }
     ensures kept { OnOk result (environment.new.kept ≡ (answering environment.old.now false, beside) ∷ environment.old.kept) }
     ensures refused { OnErr result (environment.new.now ≡ environment.old.now) }

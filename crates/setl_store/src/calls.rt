@@ -18,16 +18,16 @@ use crate::returning::handed_back;
 use crate::store::Store;
 use setl_code::{Code, Step};
 use setl_rep_bases::Bases;
-use setl_store_environment::{Environment, Memory};
+use setl_store_environment::Environment;
 use setl_value::Value;
-use std::alloc::Global;
+use std::alloc::{AllocError, Global};
 
 impl<'c> Store<'c> {
     /// At the first step of the main program of a code, with every variable `om`, and so many bases of the main program
     /// without members.
     ///
     /// The error is want of memory.
-    pub fn start(alloc: Global, code: &'c Code, bases: u32) -> Result<Store<'c>, Memory>
+    pub fn start(alloc: Global, code: &'c Code, bases: u32) -> Result<Store<'c>, AllocError>
         requires { MayRun code.now }
         ensures { IfOk result (λ store. store ≡ started code.now) }
     {
@@ -88,7 +88,7 @@ impl<'c> Store<'c> {
     /// the step in hand.
     ///
     /// The error is want of memory, and then all is as before.
-    pub fn enter(&mut self, body: u32, values: Vec<Option<Value>>) -> Result<(), Memory>
+    pub fn enter(&mut self, body: u32, values: Vec<Option<Value>>) -> Result<(), AllocError>
         requires there { body < length self.old.code.bodies }
         requires each { IfSome (slice_get self.old.code.bodies body) (λ b. length values.items ≡ length b.parameters) }
         requires few { self.old.core.now.at + 1 < 2 ^ 64 }
@@ -111,7 +111,7 @@ impl<'c> Store<'c> {
     /// taken, and then all is as before.
     ///
     /// The error is want of memory, and then all is as before.
-    pub fn leave(&mut self, value: Option<Value>) -> Result<bool, Memory>
+    pub fn leave(&mut self, value: Option<Value>) -> Result<bool, AllocError>
         ensures code { self.new.code ≡ self.old.code }
         ensures left { IfOk result (λ done. Leaves (left (slice_get (plain_code self.old.code).bodies self.old.core.now.body) (part value) self.old.core) done self.old.core self.new.core) }
         ensures refused { OnErr result (self.new ≡ self.old) }

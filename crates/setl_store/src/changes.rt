@@ -5,7 +5,6 @@ ghost use Rattle.setl_store.specs.Flat.{with_operand, with_slot, cut_to};
 ghost use Rattle.setl_store.specs.Small.{is_small, is_small_held};
 
 use crate::cells::Contents;
-use setl_store_environment::Memory;
 use setl_store_operands::Operand;
 use setl_store_slots::Held;
 use setl_value::Value;
@@ -13,7 +12,7 @@ use std::alloc::AllocError;
 
 /// Adds an operand.
 #[inline(always)]
-pub(crate) fn add_operand(environment: &mut Contents, operand: Operand) -> Result<(), Memory>
+pub(crate) fn add_operand(environment: &mut Contents, operand: Operand) -> Result<(), AllocError>
     ensures now { OnOk result (environment.new.now ≡ with_operand environment.old.now operand) }
     ensures kept { environment.new.kept ≡ environment.old.kept }
     ensures refused { OnErr result (environment.new.now ≡ environment.old.now) }
@@ -26,7 +25,7 @@ pub(crate) fn add_operand(environment: &mut Contents, operand: Operand) -> Resul
 
 /// Takes off the last operand, and gives it.
 #[inline(always)]
-pub(crate) fn take_operand(environment: &mut Contents) -> Result<Operand, Memory>
+pub(crate) fn take_operand(environment: &mut Contents) -> Result<Operand, AllocError>
     requires { 0 < length environment.old.now.operands }
     ensures value { IfOk result (λ operand. Some operand ≡ slice_get environment.old.now.operands (length environment.old.now.operands - 1)) }
     ensures now { OnOk result (environment.new.now ≡ cut_to environment.old.now (length environment.old.now.operands - 1) (length environment.old.now.members)) }
@@ -41,7 +40,7 @@ pub(crate) fn take_operand(environment: &mut Contents) -> Result<Operand, Memory
 
 /// The same where the change is noted.
 #[inline(never)]
-fn take_noted_operand(environment: &mut Contents) -> Result<Operand, Memory>
+fn take_noted_operand(environment: &mut Contents) -> Result<Operand, AllocError>
     requires { 0 < length environment.old.now.operands }
     ensures value { IfOk result (λ operand. Some operand ≡ slice_get environment.old.now.operands (length environment.old.now.operands - 1)) }
     ensures now { OnOk result (environment.new.now ≡ cut_to environment.old.now (length environment.old.now.operands - 1) (length environment.old.now.members)) }
@@ -54,7 +53,7 @@ fn take_noted_operand(environment: &mut Contents) -> Result<Operand, Memory>
 
 /// Drops the last operand and the members from this one on.
 #[inline(always)]
-pub(crate) fn drop_operand(environment: &mut Contents, lowest: usize) -> Result<(), Memory>
+pub(crate) fn drop_operand(environment: &mut Contents, lowest: usize) -> Result<(), AllocError>
     requires some { 0 < length environment.old.now.operands }
     requires fewer { lowest ≤ length environment.old.now.members }
     ensures now { OnOk result (environment.new.now ≡ cut_to environment.old.now (length environment.old.now.operands - 1) lowest) }
@@ -79,7 +78,7 @@ pub(crate) fn drop_operand(environment: &mut Contents, lowest: usize) -> Result<
 
 /// The same, whatever is dropped.
 #[inline(never)]
-fn drop_any_operand(environment: &mut Contents, lowest: usize) -> Result<(), Memory>
+fn drop_any_operand(environment: &mut Contents, lowest: usize) -> Result<(), AllocError>
     requires some { 0 < length environment.old.now.operands }
     requires fewer { lowest ≤ length environment.old.now.members }
     ensures now { OnOk result (environment.new.now ≡ cut_to environment.old.now (length environment.old.now.operands - 1) lowest) }
@@ -94,7 +93,7 @@ fn drop_any_operand(environment: &mut Contents, lowest: usize) -> Result<(), Mem
 
 /// Puts an operand in the place of the last one.
 #[inline(always)]
-pub(crate) fn put_operand(environment: &mut Contents, operand: Operand) -> Result<(), Memory>
+pub(crate) fn put_operand(environment: &mut Contents, operand: Operand) -> Result<(), AllocError>
     requires { 0 < length environment.old.now.operands }
     ensures now { OnOk result (environment.new.now ≡ record environment.old.now { operands = slice_set environment.old.now.operands (length environment.old.now.operands - 1) operand }) }
     ensures kept { environment.new.kept ≡ environment.old.kept }
@@ -115,7 +114,7 @@ pub(crate) fn put_operand(environment: &mut Contents, operand: Operand) -> Resul
 
 /// The same, whatever is dropped.
 #[inline(never)]
-fn put_any_operand(environment: &mut Contents, operand: Operand) -> Result<(), Memory>
+fn put_any_operand(environment: &mut Contents, operand: Operand) -> Result<(), AllocError>
     requires { 0 < length environment.old.now.operands }
     ensures now { OnOk result (environment.new.now ≡ record environment.old.now { operands = slice_set environment.old.now.operands (length environment.old.now.operands - 1) operand }) }
     ensures kept { environment.new.kept ≡ environment.old.kept }
@@ -129,7 +128,7 @@ fn put_any_operand(environment: &mut Contents, operand: Operand) -> Result<(), M
 
 /// Makes so many changes and one more ready. The error is want of memory, or that these are 2^64, which no memory holds.
 #[inline(always)]
-pub(crate) fn reserve_one_more(environment: &mut Contents, count: usize) -> Result<(), Memory>
+pub(crate) fn reserve_one_more(environment: &mut Contents, count: usize) -> Result<(), AllocError>
     ensures now { environment.new.now ≡ environment.old.now }
     ensures kept { environment.new.kept ≡ environment.old.kept }
     ensures ready { OnOk result (count + 1 ≤ environment.new.ready) }
@@ -148,7 +147,7 @@ pub(crate) fn reserve_sum(
     operands: usize,
     members: usize,
     values: usize,
-) -> Result<(), Memory>
+) -> Result<(), AllocError>
     ensures now { environment.new.now ≡ environment.old.now }
     ensures kept { environment.new.kept ≡ environment.old.kept }
     ensures ready { OnOk result (slots + operands + members + values + 1 ≤ environment.new.ready) }
@@ -170,7 +169,7 @@ pub(crate) fn cut_back(
     environment: &mut Contents,
     operands: usize,
     members: usize,
-) -> Result<(), Memory>
+) -> Result<(), AllocError>
     requires operands { operands ≤ length environment.old.now.operands }
     requires members { members ≤ length environment.old.now.members }
     ensures now { OnOk result (environment.new.now ≡ cut_to environment.old.now operands members) }
@@ -191,7 +190,11 @@ pub(crate) fn cut_back(
 
 /// Puts this in the place of what a slot holds.
 #[inline(always)]
-pub(crate) fn write_slot(environment: &mut Contents, at: usize, value: Held) -> Result<(), Memory>
+pub(crate) fn write_slot(
+    environment: &mut Contents,
+    at: usize,
+    value: Held,
+) -> Result<(), AllocError>
     requires { at < length environment.old.now.slots }
     ensures now { OnOk result (environment.new.now ≡ with_slot environment.old.now at value) }
     ensures kept { environment.new.kept ≡ environment.old.kept }
@@ -211,7 +214,7 @@ pub(crate) fn write_slot(environment: &mut Contents, at: usize, value: Held) -> 
 
 /// The same, whatever is dropped.
 #[inline(never)]
-fn write_any_slot(environment: &mut Contents, at: usize, value: Held) -> Result<(), Memory>
+fn write_any_slot(environment: &mut Contents, at: usize, value: Held) -> Result<(), AllocError>
     requires { at < length environment.old.now.slots }
     ensures now { OnOk result (environment.new.now ≡ with_slot environment.old.now at value) }
     ensures kept { environment.new.kept ≡ environment.old.kept }
@@ -224,7 +227,7 @@ fn write_any_slot(environment: &mut Contents, at: usize, value: Held) -> Result<
 
 /// Puts nothing in the place of what a slot holds, and gives that.
 #[inline(always)]
-pub(crate) fn take_slot(environment: &mut Contents, at: usize) -> Result<Held, Memory>
+pub(crate) fn take_slot(environment: &mut Contents, at: usize) -> Result<Held, AllocError>
     requires { at < length environment.old.now.slots }
     ensures value { IfOk result (λ value. Some value ≡ slice_get environment.old.now.slots at) }
     ensures now { OnOk result (environment.new.now ≡ with_slot environment.old.now at Held.Taken) }
@@ -239,7 +242,7 @@ pub(crate) fn take_slot(environment: &mut Contents, at: usize) -> Result<Held, M
 
 /// The same where the change is noted.
 #[inline(never)]
-fn take_noted_slot(environment: &mut Contents, at: usize) -> Result<Held, Memory>
+fn take_noted_slot(environment: &mut Contents, at: usize) -> Result<Held, AllocError>
     requires { at < length environment.old.now.slots }
     ensures value { IfOk result (λ value. Some value ≡ slice_get environment.old.now.slots at) }
     ensures now { OnOk result (environment.new.now ≡ with_slot environment.old.now at Held.Taken) }

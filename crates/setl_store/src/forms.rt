@@ -17,15 +17,15 @@ use setl_code::Slot;
 use setl_modes::Mode;
 use setl_rep_entering::bases_are_there;
 use setl_rep_updates::Change;
-use setl_store_environment::Memory;
 use setl_value::Value;
+use std::alloc::AllocError;
 
 impl<'c> Store<'c> {
     /// Stores a value in a variable's slot, in the form of a mode that it fits, and enters the values at its places into their
     /// bases. Where the mode names a base that isn't there, the value is stored as it is.
     ///
     /// The error is want of memory, and then all is as before. The cost is near linear in the size of the value.
-    pub fn assign(&mut self, slot: Slot, mode: &Mode, value: Value) -> Result<(), Memory>
+    pub fn assign(&mut self, slot: Slot, mode: &Mode, value: Value) -> Result<(), AllocError>
         requires slot { HasSlot (length self.old.core.globals) (length self.old.core.now.own) slot }
         requires fits { datum_fits (mode_of mode.now) (datum value) ≡ true }
         ensures { Becomes result self.old self.new (record self.old { core = write (plain_slot (variables self.old.core) slot) (There (Some (datum value))) self.old.core }) }
@@ -52,7 +52,7 @@ impl<'c> Store<'c> {
     ///
     /// The error is want of memory, and then all is as before. Where nobody else holds the set or map, the cost is near linear in
     /// the size of what is put in or taken out alone.
-    pub fn update(&mut self, slot: Slot, change: &Change) -> Result<bool, Memory>
+    pub fn update(&mut self, slot: Slot, change: &Change) -> Result<bool, AllocError>
         requires { HasSlot (length self.old.core.globals) (length self.old.core.now.own) slot }
         ensures done { IfOk result (UpdatesFreely (given_by change.now) (plain_slot (variables self.old.core) slot) self.old self.new) }
         ensures refused { OnErr result (self.new ≡ self.old) }
@@ -73,7 +73,7 @@ impl<'c> Store<'c> {
     /// Has a variable's slot hold its value as it is, in no form.
     ///
     /// The error is want of memory. The variable has what it had in both cases.
-    pub fn make_plain(&mut self, slot: Slot) -> Result<(), Memory>
+    pub fn make_plain(&mut self, slot: Slot) -> Result<(), AllocError>
         requires { HasSlot (length self.old.core.globals) (length self.old.core.now.own) slot }
         ensures { self.new ≡ self.old }
     {

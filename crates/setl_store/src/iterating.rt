@@ -17,7 +17,6 @@ use crate::changes::put_back;
 use crate::store::{Store, lowest};
 use setl_operators_table::OpFault;
 use setl_program::Collection;
-use setl_store_environment::Memory;
 use setl_store_iterator::{Item, Iterator};
 use setl_store_operands::{Member, Operand, operand};
 use setl_value::Value;
@@ -58,7 +57,7 @@ impl<'c> Store<'c> {
     /// Takes the first item of the iterator on top, and pushes it: a member, or an image and on it its argument.
     ///
     /// The error is want of memory, and then all is as before.
-    pub fn advance(&mut self) -> Result<(), Memory>
+    pub fn advance(&mut self) -> Result<(), AllocError>
         requires { IsAhead self.old.core.now.operands ahead.AtItem }
         ensures item { OnOk result (Advances self.old.core.now.operands self.new.core.now.operands) }
         ensures rest { OnOk result (self.new ≡ record self.old { core = over self.new.core.now.operands self.old.core }) }
@@ -99,7 +98,7 @@ impl<'c> Store<'c> {
 /// Takes the first item of the iterator that is the last operand, and makes two more operands ready.
 ///
 /// The error is want of memory.
-fn take_item(alloc: Global, environment: &mut Contents) -> Result<Item, Memory>
+fn take_item(alloc: Global, environment: &mut Contents) -> Result<Item, AllocError>
     requires { IsAtItem (slice_get environment.old.now.operands (length environment.old.now.operands - 1)) }
     ensures first { IfOk result (λ item. IsFirst (slice_get environment.old.now.operands (length environment.old.now.operands - 1)) item) }
     ensures now { OnOk result (environment.new.now ≡ record environment.old.now { operands = slice_set environment.old.now.operands (length environment.old.now.operands - 1) (advanced (slice_get environment.old.now.operands (length environment.old.now.operands - 1))) }) }
@@ -193,7 +192,7 @@ fn add_member(
     member: Member,
     at: usize,
     collection: Operand,
-) -> Result<(), Memory>
+) -> Result<(), AllocError>
     requires { at < length environment.old.now.operands }
     ensures now { OnOk result (environment.new.now ≡ record environment.old.now { operands = slice_set environment.old.now.operands at collection; members = environment.old.now.members ++ member ∷ [] }) }
     ensures kept { environment.new.kept ≡ environment.old.kept }

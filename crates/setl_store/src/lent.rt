@@ -13,9 +13,9 @@ use crate::cells::Contents;
 use crate::changes::{drop_operand, put_operand};
 use crate::store::{Store, lowest};
 use setl_rep_bases::Bases;
-use setl_store_environment::Memory;
 use setl_store_operands::{AsHeld, Operand, in_form, operand, plain_in};
 use setl_value::Value;
+use std::alloc::AllocError;
 
 impl<'c> Store<'c> {
     /// The value on top; None where none is there, or it is `om`, a collection, an iterator, or a set or a tuple in a form. It
@@ -120,7 +120,7 @@ impl<'c> Store<'c> {
     ///
     /// The error is want of memory, and then all is as before.
     #[inline(always)]
-    pub fn drop_top(&mut self) -> Result<(), Memory>
+    pub fn drop_top(&mut self) -> Result<(), AllocError>
         requires { IsSome (top_of self.old.core.now.operands) }
         ensures { Becomes result self.old self.new (record self.old { core = over (drop 1 self.old.core.now.operands) self.old.core }) }
     {
@@ -135,7 +135,7 @@ impl<'c> Store<'c> {
     ///
     /// The error is want of memory, and then all is as before.
     #[inline(always)]
-    pub fn put_top(&mut self, value: Option<Value>) -> Result<(), Memory>
+    pub fn put_top(&mut self, value: Option<Value>) -> Result<(), AllocError>
         requires { IsPlainTop self.old.core.now.operands }
         ensures { Becomes result self.old self.new (record self.old { core = over (Holds (part value) ∷ drop 1 self.old.core.now.operands) self.old.core }) }
     {

@@ -16,5 +16,4 @@ mod store;
 
 pub use iterating::Ahead;
 pub use setl_operators_table::OpFault;
-pub use setl_store_environment::Memory;
 pub use store::{Content, Store, Top};

@@ -12,16 +12,16 @@ use crate::activations::members_of_lower;
 use crate::changes::{cut_back, drop_operand, take_operand};
 use crate::store::{Store, lowest};
 use setl_rep_plain::plain;
-use setl_store_environment::Memory;
 use setl_store_operands::{Operand, is_value, served, value};
 use setl_value::Value;
+use std::alloc::AllocError;
 
 impl<'c> Store<'c> {
     /// Takes the top off: a result, or a collection as the set or tuple of its members.
     ///
     /// The error is want of memory, and then all is as before.
     #[inline(always)]
-    pub fn pop(&mut self) -> Result<Option<Value>, Memory>
+    pub fn pop(&mut self) -> Result<Option<Value>, AllocError>
         requires { IsSome (top_of self.old.core.now.operands) }
         ensures value { IfOk result (λ value. top_of self.old.core.now.operands ≡ Some (part value, self.new.core.now.operands)) }
         ensures rest { OnOk result (self.new ≡ record self.old { core = over self.new.core.now.operands self.old.core }) }
@@ -50,7 +50,7 @@ impl<'c> Store<'c> {
     /// before. Sets and tuples are made of collections, as by `pop`.
     ///
     /// The error is want of memory, and then all is as before.
-    pub fn pop_values(&mut self, count: usize) -> Result<Option<Vec<Option<Value>>>, Memory>
+    pub fn pop_values(&mut self, count: usize) -> Result<Option<Vec<Option<Value>>>, AllocError>
         ensures values { IfOk result (λ values. TakesOff count self.old.core.now.operands (option_map (λ all. map part all.items) values) self.new.core.now.operands) }
         ensures rest { OnOk result (self.new ≡ record self.old { core = over self.new.core.now.operands self.old.core }) }
         ensures few { IfOk result (λ values. IfNone values (self.new ≡ self.old)) }
@@ -67,7 +67,7 @@ impl<'c> Store<'c> {
     /// Drops so many iterators. Its answer is whether so many are on top, and else all is as before.
     ///
     /// The error is want of memory, and then all is as before.
-    pub fn drop_iterators(&mut self, count: usize) -> Result<bool, Memory>
+    pub fn drop_iterators(&mut self, count: usize) -> Result<bool, AllocError>
         ensures dropped { IfOk result (λ all. DropsIterators count self.old.core.now.operands all self.new.core.now.operands) }
         ensures rest { OnOk result (self.new ≡ record self.old { core = over self.new.core.now.operands self.old.core }) }
         ensures few { IfOk result (λ all. all ≡ false → self.new ≡ self.old) }
@@ -81,7 +81,7 @@ impl<'c> Store<'c> {
     }
 
     // Drops so many operands of the body at work.
-    fn drop_top_ones(&mut self, count: usize) -> Result<(), Memory>
+    fn drop_top_ones(&mut self, count: usize) -> Result<(), AllocError>
         requires { count ≤ length self.old.core.now.operands }
         ensures { Becomes result self.old self.new (record self.old { core = over (drop count self.old.core.now.operands) self.old.core }) }
     {
@@ -92,7 +92,7 @@ impl<'c> Store<'c> {
     }
 
     // Copies of so many results on top, the top last.
-    fn top_values(&self, count: usize) -> Result<Vec<Option<Value>>, Memory>
+    fn top_values(&self, count: usize) -> Result<Vec<Option<Value>>, AllocError>
         requires { has_values count self.now.core.now.operands ≡ true }
         ensures { IfOk result (λ values. popped count [] self.now.core.now.operands ≡ Pops (map part values.items) (drop count self.now.core.now.operands)) }
     {

@@ -16,10 +16,9 @@ use setl_modes::Mode;
 use setl_rep_bases::Bases;
 use setl_rep_plain::plain;
 use setl_rep_updates::Change;
-use setl_store_environment::Memory;
 use setl_store_slots::{Held, formed, update};
 use setl_value::Value;
-use std::alloc::Global;
+use std::alloc::{AllocError, Global};
 
 /// Puts a value that fits a mode into a slot, in the form of that mode.
 pub(crate) fn put_formed(
@@ -29,7 +28,7 @@ pub(crate) fn put_formed(
     at: usize,
     mode: &Mode,
     value: &Value,
-) -> Result<(), Memory>
+) -> Result<(), AllocError>
     requires slot { at < length environment.old.now.slots }
     requires fits { datum_fits (mode_of mode.now) (datum value.now) ≡ true }
     requires there { BasesAreThere bases.old 0 (mode_of mode.now) }
@@ -51,7 +50,7 @@ pub(crate) fn update_at(
     bases: &mut Bases,
     at: usize,
     change: &Change,
-) -> Result<bool, Memory>
+) -> Result<bool, AllocError>
     requires slot { at < length environment.old.now.slots }
     requires standing { AreStanding bases.old environment.old.now.slots }
     ensures updated { IsUpdatedAt (given_by change.now) bases.old bases.new at environment.old.now environment.new.now result }
@@ -82,7 +81,7 @@ pub(crate) fn plain_at(
     environment: &mut Contents,
     bases: &Bases,
     at: usize,
-) -> Result<(), Memory>
+) -> Result<(), AllocError>
     requires slot { at < length environment.old.now.slots }
     requires standing { AreStanding bases.now environment.old.now.slots }
     ensures again { IsPutAgain bases.now at environment.old.now environment.new.now }

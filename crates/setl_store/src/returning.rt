@@ -12,10 +12,9 @@ use crate::activations::innermost;
 use crate::cells::Contents;
 use setl_code::Code;
 use setl_rep_bases::Bases;
-use setl_store_environment::Memory;
 use setl_tree::Param;
 use setl_value::Value;
-use std::alloc::Global;
+use std::alloc::{AllocError, Global};
 
 /// The result of the innermost activation, and behind it what its `wr` and `rw` parameters hold, the first one last; or
 /// None where no activation waits for it, or one of these was taken.
@@ -25,7 +24,7 @@ pub(crate) fn handed_back(
     environment: &Contents,
     bases: &Bases,
     value: Option<Value>,
-) -> Result<Option<Vec<Option<Value>>>, Memory>
+) -> Result<Option<Vec<Option<Value>>>, AllocError>
     requires some { 0 < length environment.now.now.activations }
     requires slots { slots_in (reverse environment.now.now.activations) + parameter_count_of (slice_get code.now.bodies (body_in (reverse environment.now.now.activations))) ≤ length environment.now.now.slots }
     requires standing { AreStanding bases.now environment.now.now.slots }
@@ -56,7 +55,7 @@ fn from_slots(
     bases: &Bases,
     lowest: usize,
     value: Option<Value>,
-) -> Result<Option<Vec<Option<Value>>>, Memory>
+) -> Result<Option<Vec<Option<Value>>>, AllocError>
     requires slots { lowest + length parameters.now ≤ length environment.now.now.slots }
     requires standing { AreStanding bases.now environment.now.now.slots }
     ensures { IfOk result (λ all. (xs : _) → handed parameters.now (drop lowest (helds bases.now environment.now.now)) (Holds (part value) ∷ xs) ≡ option_map (λ values. pushed_on (map part values.items) xs) all) }

@@ -19,12 +19,11 @@ use setl_code::{Code, Slot};
 use setl_program::Collection;
 use setl_rep_bases::Bases;
 use setl_rep_plain::plain;
-use setl_store_environment::Memory;
 use setl_store_iterator::Iterator;
 use setl_store_operands::{Lent, Operand, lend, operand, operand_in};
 use setl_store_slots::{Held, content};
 use setl_value::Value;
-use std::alloc::Global;
+use std::alloc::{AllocError, Global};
 use std::marker::Model;
 
 /// The variables, operands and activations of a run of a code, its place in the code, the bases of its variables' forms, and
@@ -112,7 +111,7 @@ impl<'c> Store<'c> {
     /// The value, or `om`, that a variable's slot holds.
     ///
     /// The error is want of memory.
-    pub fn value(&self, slot: Slot) -> Result<Option<Value>, Memory>
+    pub fn value(&self, slot: Slot) -> Result<Option<Value>, AllocError>
         requires slot { HasSlot (length self.now.core.globals) (length self.now.core.now.own) slot }
         requires there { IsThere (held (plain_slot (variables self.now.core) slot) self.now.core) }
         ensures { IfOk result (λ value. held (plain_slot (variables self.now.core) slot) self.now.core ≡ There (part value)) }
@@ -128,7 +127,7 @@ impl<'c> Store<'c> {
     ///
     /// The error is want of memory, and then all is as before.
     #[inline(always)]
-    pub fn set_slot(&mut self, slot: Slot, value: Option<Value>) -> Result<(), Memory>
+    pub fn set_slot(&mut self, slot: Slot, value: Option<Value>) -> Result<(), AllocError>
         requires { HasSlot (length self.old.core.globals) (length self.old.core.now.own) slot }
         ensures { Becomes result self.old self.new (record self.old { core = write (plain_slot (variables self.old.core) slot) (There (part value)) self.old.core }) }
     {
@@ -141,7 +140,7 @@ impl<'c> Store<'c> {
     ///
     /// The error is want of memory, and then all is as before.
     #[inline(always)]
-    pub fn take_slot(&mut self, slot: Slot) -> Result<Option<Value>, Memory>
+    pub fn take_slot(&mut self, slot: Slot) -> Result<Option<Value>, AllocError>
         requires slot { HasSlot (length self.old.core.globals) (length self.old.core.now.own) slot }
         requires there { IsThere (held (plain_slot (variables self.old.core) slot) self.old.core) }
         ensures value { IfOk result (λ value. held (plain_slot (variables self.old.core) slot) self.old.core ≡ There (part value)) }
@@ -182,7 +181,7 @@ impl<'c> Store<'c> {
     ///
     /// The error is want of memory, and then all is as before.
     #[inline(always)]
-    pub fn push(&mut self, value: Option<Value>) -> Result<(), Memory>
+    pub fn push(&mut self, value: Option<Value>) -> Result<(), AllocError>
         ensures { Becomes result self.old self.new (record self.old { core = over (Holds (part value) ∷ self.old.core.now.operands) self.old.core }) }
     {
         add_operand(&mut self.environment, operand(value))?;
@@ -192,7 +191,7 @@ impl<'c> Store<'c> {
     /// Pushes what a variable's slot holds, a value in a form over bases in that form, which both then share.
     ///
     /// The error is want of memory, and then all is as before.
-    pub fn push_slot(&mut self, slot: Slot) -> Result<(), Memory>
+    pub fn push_slot(&mut self, slot: Slot) -> Result<(), AllocError>
         requires slot { HasSlot (length self.old.core.globals) (length self.old.core.now.own) slot }
         requires there { IsThere (held (plain_slot (variables self.old.core) slot) self.old.core) }
         ensures { Becomes result self.old self.new (record self.old { core = with_pushed (held (plain_slot (variables self.old.core) slot) self.old.core) self.old.core }) }
@@ -206,7 +205,7 @@ impl<'c> Store<'c> {
     /// Pushes an iterator.
     ///
     /// The error is want of memory, and then all is as before.
-    pub fn push_iterator(&mut self, iterator: Iterator) -> Result<(), Memory>
+    pub fn push_iterator(&mut self, iterator: Iterator) -> Result<(), AllocError>
         ensures { Becomes result self.old self.new (record self.old { core = over (iterator_by iterator.pairs iterator.left ∷ self.old.core.now.operands) self.old.core }) }
     {
         add_operand(&mut self.environment, Operand::Iterator(iterator))?;
@@ -216,7 +215,7 @@ impl<'c> Store<'c> {
     /// Pushes an empty collection.
     ///
     /// The error is want of memory, and then all is as before.
-    pub fn push_collection(&mut self, what: Collection) -> Result<(), Memory>
+    pub fn push_collection(&mut self, what: Collection) -> Result<(), AllocError>
         ensures { Becomes result self.old self.new (record self.old { core = over (Collecting what [] ∷ self.old.core.now.operands) self.old.core }) }
     {
         let lowest = self.environment.members();

@@ -10,12 +10,12 @@ ghost use Rattle.setl_store_environment.specs.Places.{with, no_fields, HasRoom};
 ghost use Rattle.setl_store_environment.specs.Kept.{base_of, noted};
 ghost use Rattle.setl_store_environment.specs.Undo.{undone, FitsIn, parts, contents_of, ready_of, lower, needed, slots_restamped, operands_restamped};
 
+use crate::Copied;
 use crate::fields::{Field, put_field};
 use crate::stack::{Place, Stack};
-use crate::{Copied, Memory};
 use setl_local::Fields;
 use setl_trail::{Needed, Trail};
-use std::alloc::Global;
+use std::alloc::{AllocError, Global};
 use std::marker::Model;
 
 /// What a change replaced: one place of one of the four lists, or one field, with its old content. A slot and an operand
@@ -123,7 +123,7 @@ impl<S: Drop, O: Drop, A: Drop, M: Drop, F: Drop, K: Drop> Environment<S, O, A, 
     /// Nothing is there, and nothing is kept.
     ///
     /// The error is want of memory.
-    pub fn new(alloc: Global) -> Result<Environment<S, O, A, M, F, K>, Memory>
+    pub fn new(alloc: Global) -> Result<Environment<S, O, A, M, F, K>, AllocError>
         ensures now { IfOk result (λ e. e.now ≡ record { slots = []; operands = []; activations = []; members = []; fields = no_fields }) }
         ensures kept { IfOk result (λ e. e.kept ≡ []) }
     {
@@ -147,7 +147,7 @@ impl<S: Drop, O: Drop, A: Drop, M: Drop, F: Drop, K: Drop> Environment<S, O, A, 
     ///
     /// The error is want of memory, and then all is as before. Where nothing is kept, it takes none.
     #[inline(always)]
-    pub fn reserve(&mut self, n: usize) -> Result<(), Memory>
+    pub fn reserve(&mut self, n: usize) -> Result<(), AllocError>
         ensures now { self.new.now ≡ self.old.now }
         ensures kept { self.new.kept ≡ self.old.kept }
         ensures ready { OnOk result (n ≤ self.new.ready) }
@@ -180,7 +180,7 @@ impl<S: Drop, O: Drop, A: Drop, M: Drop, F: Drop, K: Drop> Environment<S, O, A, 
     ///
     /// The error is want of memory, and then all is as before. Where that memory is there, no more is taken.
     #[inline(always)]
-    pub fn reserve_slots(&mut self, n: usize) -> Result<(), Memory>
+    pub fn reserve_slots(&mut self, n: usize) -> Result<(), AllocError>
         ensures now { self.new.now ≡ self.old.now }
         ensures kept { self.new.kept ≡ self.old.kept }
         ensures ready { self.new.ready ≡ self.old.ready }
@@ -216,7 +216,7 @@ impl<S: Drop, O: Drop, A: Drop, M: Drop, F: Drop, K: Drop> Environment<S, O, A, 
     /// Puts a value in the place of a slot, and gives what was there: a copy where it is noted, else moved out.
     ///
     /// The error is want of memory, and then all is as before. Where nothing is kept, it takes none.
-    pub fn replace_slot(&mut self, at: usize, value: S) -> Result<S, Memory>
+    pub fn replace_slot(&mut self, at: usize, value: S) -> Result<S, AllocError>
     where
         S: Copied,
         requires there { at < length self.old.now.slots }
@@ -339,7 +339,7 @@ impl<S: Drop, O: Drop, A: Drop, M: Drop, F: Drop, K: Drop> Environment<S, O, A, 
     ///
     /// The error is want of memory, and then all is as before. Where that memory is there, no more is taken.
     #[inline(always)]
-    pub fn reserve_operands(&mut self, n: usize) -> Result<(), Memory>
+    pub fn reserve_operands(&mut self, n: usize) -> Result<(), AllocError>
         ensures now { self.new.now ≡ self.old.now }
         ensures kept { self.new.kept ≡ self.old.kept }
         ensures ready { self.new.ready ≡ self.old.ready }
@@ -381,7 +381,7 @@ impl<S: Drop, O: Drop, A: Drop, M: Drop, F: Drop, K: Drop> Environment<S, O, A, 
     ///
     /// The error is want of memory, and then all is as before. Where nothing is kept, it takes none.
     #[inline(always)]
-    pub fn replace_operand(&mut self, at: usize, value: O) -> Result<O, Memory>
+    pub fn replace_operand(&mut self, at: usize, value: O) -> Result<O, AllocError>
     where
         O: Copied,
         requires there { at < length self.old.now.operands }
@@ -450,7 +450,7 @@ impl<S: Drop, O: Drop, A: Drop, M: Drop, F: Drop, K: Drop> Environment<S, O, A, 
     ///
     /// The error is want of memory, and then all is as before. Where nothing is kept, it takes none.
     #[inline(always)]
-    pub fn pop_operand(&mut self) -> Result<O, Memory>
+    pub fn pop_operand(&mut self) -> Result<O, AllocError>
     where
         O: Copied,
         requires some { 0 < length self.old.now.operands }
@@ -518,7 +518,7 @@ impl<S: Drop, O: Drop, A: Drop, M: Drop, F: Drop, K: Drop> Environment<S, O, A, 
     /// moved out.
     ///
     /// The error is want of memory, and then all is as before.
-    pub fn pop_operands(&mut self, n: usize) -> Result<Vec<O>, Memory>
+    pub fn pop_operands(&mut self, n: usize) -> Result<Vec<O>, AllocError>
     where
         O: Copied,
         requires fewer { n ≤ length self.old.now.operands }
@@ -540,7 +540,7 @@ impl<S: Drop, O: Drop, A: Drop, M: Drop, F: Drop, K: Drop> Environment<S, O, A, 
     }
 
     // Copies of the operands above the lowest `n`.
-    fn copied_operands(&self, n: usize) -> Result<Vec<O>, Memory>
+    fn copied_operands(&self, n: usize) -> Result<Vec<O>, AllocError>
     where
         O: Copied,
         requires { n ≤ length self.now.now.operands }
@@ -583,7 +583,7 @@ impl<S: Drop, O: Drop, A: Drop, M: Drop, F: Drop, K: Drop> Environment<S, O, A, 
     /// Makes sure of memory for `n` more activations.
     ///
     /// The error is want of memory, and then all is as before. Where that memory is there, no more is taken.
-    pub fn reserve_activations(&mut self, n: usize) -> Result<(), Memory>
+    pub fn reserve_activations(&mut self, n: usize) -> Result<(), AllocError>
         ensures now { self.new.now ≡ self.old.now }
         ensures kept { self.new.kept ≡ self.old.kept }
         ensures ready { self.new.ready ≡ self.old.ready }
@@ -638,7 +638,7 @@ impl<S: Drop, O: Drop, A: Drop, M: Drop, F: Drop, K: Drop> Environment<S, O, A, 
     /// Makes sure of memory for `n` more members.
     ///
     /// The error is want of memory, and then all is as before. Where that memory is there, no more is taken.
-    pub fn reserve_members(&mut self, n: usize) -> Result<(), Memory>
+    pub fn reserve_members(&mut self, n: usize) -> Result<(), AllocError>
         ensures now { self.new.now ≡ self.old.now }
         ensures kept { self.new.kept ≡ self.old.kept }
         ensures ready { self.new.ready ≡ self.old.ready }
@@ -666,7 +666,7 @@ impl<S: Drop, O: Drop, A: Drop, M: Drop, F: Drop, K: Drop> Environment<S, O, A, 
     /// Copies of `count` members from the place `lowest` on, in their order.
     ///
     /// The error is want of memory.
-    pub fn copied_members(&self, lowest: usize, count: usize) -> Result<Vec<M>, Memory>
+    pub fn copied_members(&self, lowest: usize, count: usize) -> Result<Vec<M>, AllocError>
     where
         M: Copied,
         requires { lowest + count ≤ length self.now.now.members }
@@ -726,7 +726,7 @@ impl<S: Drop, O: Drop, A: Drop, M: Drop, F: Drop, K: Drop> Environment<S, O, A, 
     /// Makes sure of memory for an object's field in a block.
     ///
     /// The error is want of memory, and then all is as before.
-    pub fn reserve_field(&mut self, object: u32, block: u64) -> Result<(), Memory>
+    pub fn reserve_field(&mut self, object: u32, block: u64) -> Result<(), AllocError>
         ensures now { self.new.now ≡ self.old.now }
         ensures kept { self.new.kept ≡ self.old.kept }
         ensures ready { self.new.ready ≡ self.old.ready }
@@ -762,7 +762,7 @@ impl<S: Drop, O: Drop, A: Drop, M: Drop, F: Drop, K: Drop> Environment<S, O, A, 
     /// were ready need not be so any more.
     ///
     /// The error is want of memory, and then all is as before, but for more changes that may be ready.
-    pub fn keep(&mut self, beside: K, n: usize) -> Result<(), Memory>
+    pub fn keep(&mut self, beside: K, n: usize) -> Result<(), AllocError>
         ensures now { self.new.now ≡ self.old.now }
         ensures kept { OnOk result (self.new.kept ≡ (self.old.now, beside) ∷ self.old.kept) }
         ensures ready { OnOk result (n ≤ self.new.ready) }
@@ -901,14 +901,14 @@ fn restamp(stamps: &mut Vec<u64>, at: usize, stamp: u64)
 }
 
 // The next number.
-fn count_up(clock: u64) -> Result<u64, Memory>
+fn count_up(clock: u64) -> Result<u64, AllocError>
     ensures { IfOk result (λ next. next ≡ clock + 1) }
 {
-    clock.checked_add(1).ok_or(Memory)
+    clock.checked_add(1).ok_or(AllocError)
 }
 
 // Makes sure of memory for the stamps of the lowest `n` places.
-fn fill(stamps: &mut Vec<u64>, n: usize) -> Result<(), Memory>
+fn fill(stamps: &mut Vec<u64>, n: usize) -> Result<(), AllocError>
     ensures { (at : ℕ) → get_or stamps.new.items at 0 ≡ get_or stamps.old.items at 0 }
 {
     while stamps.len() < n {
@@ -957,7 +957,7 @@ fn put_back<S: Drop, O: Drop, A: Drop, M: Drop, F: Drop>(
 
 // Reserves memory for `n` entries, where something is kept.
 #[inline(always)]
-fn reserve_entries<E>(trail: &mut Trail<E>, n: usize) -> Result<(), Memory>
+fn reserve_entries<E>(trail: &mut Trail<E>, n: usize) -> Result<(), AllocError>
     ensures same { trail.new.items ≡ trail.old.items }
     ensures ready { OnOk result (n ≤ ready_of (mark_count trail.new.items) trail.new.spare) }
     ensures more { trail.old.spare ≤ trail.new.spare }

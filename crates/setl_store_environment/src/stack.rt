@@ -4,8 +4,8 @@
 ghost use Rattle.std.specs.Prelude.{◌≡◌, suc, ◌+◌, ◌-◌, ◌<◌, ◌≤◌, [], ◌∷◌, ◌++◌, length, take, drop, Some, IfOk, IsOk, OnOk, OnErr, slice_get, slice_set, vec_len, vec_capacity};
 ghost use Rattle.setl_store_environment.specs.Stack.{placed, Fits, LeadsBack};
 
-use crate::{Copied, Memory};
-use std::alloc::Global;
+use crate::Copied;
+use std::alloc::{AllocError, Global};
 use std::marker::Model;
 use std::mem;
 
@@ -37,7 +37,7 @@ impl<T> Stack<T> {
     /// An empty list.
     ///
     /// The error is want of memory.
-    pub fn new(alloc: Global) -> Result<Stack<T>, Memory>
+    pub fn new(alloc: Global) -> Result<Stack<T>, AllocError>
         ensures { IfOk result (λ stack. stack.items ≡ []) }
     {
         Ok(Stack {
@@ -63,7 +63,7 @@ impl<T> Stack<T> {
     /// Makes sure of memory for `n` more values.
     ///
     /// The error is want of memory, and then the list is as before. Where that memory is there, no more is taken.
-    pub fn reserve(&mut self, n: usize) -> Result<(), Memory>
+    pub fn reserve(&mut self, n: usize) -> Result<(), AllocError>
         ensures same { self.new.items ≡ self.old.items }
         ensures room { OnOk result (length self.new.items + n ≤ self.new.room) }
         ensures more { self.old.room ≤ self.new.room }
@@ -136,7 +136,7 @@ impl<T> Stack<T> {
     /// Takes off the values above the lowest `n`, and gives them.
     ///
     /// The error is want of memory, and then the list is as before.
-    pub fn split_off(&mut self, n: usize) -> Result<Vec<T>, Memory>
+    pub fn split_off(&mut self, n: usize) -> Result<Vec<T>, AllocError>
         requires { n ≤ length self.old.items }
         ensures values { IfOk result (λ values. values.items ≡ drop n self.old.items) }
         ensures taken { OnOk result (self.new.items ≡ take n self.old.items) }
@@ -216,7 +216,7 @@ impl<T: Copied> Stack<T> {
     /// Copies of the values above the lowest `n`.
     ///
     /// The error is want of memory.
-    pub fn copied_from(&self, n: usize) -> Result<Vec<T>, Memory>
+    pub fn copied_from(&self, n: usize) -> Result<Vec<T>, AllocError>
         requires { n ≤ length self.now.items }
         ensures { IfOk result (λ copies. copies.items ≡ drop n self.now.items) }
     {
@@ -226,7 +226,7 @@ impl<T: Copied> Stack<T> {
     /// Copies of `count` values from the place `lowest` on.
     ///
     /// The error is want of memory.
-    pub fn copied_between(&self, lowest: usize, count: usize) -> Result<Vec<T>, Memory>
+    pub fn copied_between(&self, lowest: usize, count: usize) -> Result<Vec<T>, AllocError>
         requires { lowest + count ≤ length self.now.items }
         ensures { IfOk result (λ copies. copies.items ≡ take count (drop lowest self.now.items)) }
     {
@@ -235,7 +235,7 @@ impl<T: Copied> Stack<T> {
 }
 
 // Copies of all values of a list.
-fn copied_all<T: Copied>(alloc: Global, values: &[T]) -> Result<Vec<T>, Memory>
+fn copied_all<T: Copied>(alloc: Global, values: &[T]) -> Result<Vec<T>, AllocError>
     ensures { IfOk result (λ copies. copies.items ≡ values.now) }
 {
     let mut copies = Vec::with_capacity(alloc, values.len())?;

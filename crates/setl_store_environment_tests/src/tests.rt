@@ -1,5 +1,5 @@
-use setl_store_environment::{Copied, Environment, Field, Memory};
-use std::alloc::Global;
+use setl_store_environment::{Copied, Environment, Field};
+use std::alloc::{AllocError, Global};
 use std::process::Abort;
 use std::test::Fail;
 
@@ -8,7 +8,7 @@ use std::test::Fail;
 struct Held(u64);
 
 impl Copied for Held {
-    fn copied(&self) -> Result<Held, Memory> {
+    fn copied(&self) -> Result<Held, AllocError> {
         Ok(Held(self.0))
     }
 }
@@ -93,7 +93,7 @@ forget: true | 6 | 6 | 1 2 6 | 1
 back: 21 | 1 2 3 | 1 2 | 1 2 | 2";
 
 // A slot, an operand, an activation and a member more, with this number.
-fn add(env: &mut Env, n: u64) -> Result<(), Memory> {
+fn add(env: &mut Env, n: u64) -> Result<(), AllocError> {
     env.reserve(4)?;
     env.reserve_slots(1)?;
     env.reserve_operands(1)?;
@@ -107,7 +107,7 @@ fn add(env: &mut Env, n: u64) -> Result<(), Memory> {
 }
 
 // A slot more, with this number.
-fn push_slots(alloc: Global, env: &mut Env, n: u64) -> Result<(), Memory> {
+fn push_slots(alloc: Global, env: &mut Env, n: u64) -> Result<(), AllocError> {
     env.reserve(1)?;
     env.reserve_slots(1)?;
     let mut more = Vec::with_capacity(alloc, 1)?;
@@ -116,7 +116,7 @@ fn push_slots(alloc: Global, env: &mut Env, n: u64) -> Result<(), Memory> {
     Ok(())
 }
 
-fn set(env: &mut Env) -> Result<(), Memory> {
+fn set(env: &mut Env) -> Result<(), AllocError> {
     env.reserve(2)?;
     if env.slots() > 0 && env.operands() > 0 {
         env.set_slot(0, Held(11));
@@ -125,7 +125,7 @@ fn set(env: &mut Env) -> Result<(), Memory> {
     Ok(())
 }
 
-fn drop_last(env: &mut Env) -> Result<(), Memory> {
+fn drop_last(env: &mut Env) -> Result<(), AllocError> {
     env.reserve(2)?;
     if env.operands() > 0 && env.activations() > 0 {
         env.drop_operand();
@@ -134,7 +134,7 @@ fn drop_last(env: &mut Env) -> Result<(), Memory> {
     Ok(())
 }
 
-fn cut(env: &mut Env) -> Result<(), Memory> {
+fn cut(env: &mut Env) -> Result<(), AllocError> {
     env.reserve(env.slots())?;
     env.cut_slots(0);
     env.reserve(env.operands())?;
@@ -144,14 +144,14 @@ fn cut(env: &mut Env) -> Result<(), Memory> {
     Ok(())
 }
 
-fn back(env: &mut Env, told: &mut String) -> Result<(), Memory> {
+fn back(env: &mut Env, told: &mut String) -> Result<(), AllocError> {
     match env.back() {
         Some(beside) => write!(told, " {beside}"),
         None => Ok(()),
     }
 }
 
-fn replace(env: &mut Env, told: &mut String) -> Result<(), Memory> {
+fn replace(env: &mut Env, told: &mut String) -> Result<(), AllocError> {
     env.reserve(2)?;
     if env.slots() > 0 && env.operands() > 0 {
         let slot = env.replace_slot(0, Held(11))?.0;
@@ -161,7 +161,7 @@ fn replace(env: &mut Env, told: &mut String) -> Result<(), Memory> {
     Ok(())
 }
 
-fn replace_unnoted(env: &mut Env, told: &mut String) -> Result<(), Memory> {
+fn replace_unnoted(env: &mut Env, told: &mut String) -> Result<(), AllocError> {
     if env.slots() > 0 && env.operands() > 0 {
         tell_replaced(env.replace_unnoted_slot(0, Held(13)), told)?;
         tell_replaced(env.replace_unnoted_operand(0, Held(14)), told)?;
@@ -169,14 +169,14 @@ fn replace_unnoted(env: &mut Env, told: &mut String) -> Result<(), Memory> {
     Ok(())
 }
 
-fn tell_replaced(replaced: Result<Held, Held>, told: &mut String) -> Result<(), Memory> {
+fn tell_replaced(replaced: Result<Held, Held>, told: &mut String) -> Result<(), AllocError> {
     match replaced {
         Ok(before) => write!(told, " {}", before.0),
         Err(value) => write!(told, " back {}", value.0),
     }
 }
 
-fn pop_unnoted(env: &mut Env, told: &mut String) -> Result<(), Memory> {
+fn pop_unnoted(env: &mut Env, told: &mut String) -> Result<(), AllocError> {
     if env.operands() == 0 {
         return Ok(());
     }
@@ -186,7 +186,7 @@ fn pop_unnoted(env: &mut Env, told: &mut String) -> Result<(), Memory> {
     }
 }
 
-fn pop_operand(env: &mut Env, told: &mut String) -> Result<(), Memory> {
+fn pop_operand(env: &mut Env, told: &mut String) -> Result<(), AllocError> {
     env.reserve(1)?;
     if env.operands() > 0 {
         let operand = env.pop_operand()?.0;
@@ -195,13 +195,13 @@ fn pop_operand(env: &mut Env, told: &mut String) -> Result<(), Memory> {
     Ok(())
 }
 
-fn pop_operands(env: &mut Env, told: &mut String) -> Result<(), Memory> {
+fn pop_operands(env: &mut Env, told: &mut String) -> Result<(), AllocError> {
     env.reserve(env.operands())?;
     tell(&env.pop_operands(0)?, told)
 }
 
 // The member at place 1.
-fn copied_members(env: &Env, told: &mut String) -> Result<(), Memory> {
+fn copied_members(env: &Env, told: &mut String) -> Result<(), AllocError> {
     if env.members() > 1 {
         tell(&env.copied_members(1, 1)?, told)?;
     }
@@ -209,7 +209,7 @@ fn copied_members(env: &Env, told: &mut String) -> Result<(), Memory> {
 }
 
 // The bit of object 3 in block 5 on, with this number as its content.
-fn set_field(env: &mut Env, n: u64) -> Result<(), Memory> {
+fn set_field(env: &mut Env, n: u64) -> Result<(), AllocError> {
     env.reserve_field(3, 5)?;
     env.reserve(1)?;
     env.set_field(Field {
@@ -222,7 +222,7 @@ fn set_field(env: &mut Env, n: u64) -> Result<(), Memory> {
 }
 
 // The bit and the content there.
-fn field(env: &Env, told: &mut String) -> Result<(), Memory> {
+fn field(env: &Env, told: &mut String) -> Result<(), AllocError> {
     write!(told, " {}", env.bit(3, 5))?;
     match env.content(3, 5) {
         Some(content) => write!(told, " {}", content.0),
@@ -231,7 +231,7 @@ fn field(env: &Env, told: &mut String) -> Result<(), Memory> {
 }
 
 // Adds all numbers of these, in their order.
-fn tell(values: &[Held], told: &mut String) -> Result<(), Memory> {
+fn tell(values: &[Held], told: &mut String) -> Result<(), AllocError> {
     for value in values {
         write!(told, " {}", value.0)?;
     }
@@ -239,7 +239,13 @@ fn tell(values: &[Held], told: &mut String) -> Result<(), Memory> {
 }
 
 // Makes a call, and adds what it gives.
-fn call(alloc: Global, env: &mut Env, name: &str, n: u64, told: &mut String) -> Result<(), Memory> {
+fn call(
+    alloc: Global,
+    env: &mut Env,
+    name: &str,
+    n: u64,
+    told: &mut String,
+) -> Result<(), AllocError> {
     match name {
         "add" => add(env, n),
         "push_slots" => push_slots(alloc, env, n),
@@ -279,7 +285,7 @@ fn number(env: &Env, list: List, at: usize) -> Option<u64> {
 }
 
 // Adds a list, up to 9 numbers of it.
-fn show_list(env: &Env, list: List, told: &mut String) -> Result<(), Memory> {
+fn show_list(env: &Env, list: List, told: &mut String) -> Result<(), AllocError> {
     told.push_str(" |")?;
     for at in 0..9 {
         let Some(n) = number(env, list, at) else {
@@ -291,7 +297,7 @@ fn show_list(env: &Env, list: List, told: &mut String) -> Result<(), Memory> {
 }
 
 // Adds what is there.
-fn show(env: &Env, told: &mut String) -> Result<(), Memory> {
+fn show(env: &Env, told: &mut String) -> Result<(), AllocError> {
     show_list(env, List::Slots, told)?;
     show_list(env, List::Operands, told)?;
     show_list(env, List::Activations, told)?;
@@ -299,7 +305,12 @@ fn show(env: &Env, told: &mut String) -> Result<(), Memory> {
 }
 
 // Makes the call of a step, and adds the step, what it gives and what is there after it.
-fn take_step(alloc: Global, env: &mut Env, step: &str, told: &mut String) -> Result<(), Memory> {
+fn take_step(
+    alloc: Global,
+    env: &mut Env,
+    step: &str,
+    told: &mut String,
+) -> Result<(), AllocError> {
     write!(told, "{step}:")?;
     let (name, n) = step.split_once(' ').unwrap_or((step, "0"));
     call(alloc, env, name, n.parse().unwrap_or(0), told)?;

@@ -4,7 +4,6 @@ ghost use Rattle.std.specs.Prelude.{◌≡◌, ◌∷◌, ◌<◌, ◌==◌, [],
 ghost use Rattle.setl_store_iterator.specs.Items.{plain_item, is_pair};
 ghost use Rattle.setl_store_iterator.specs.Rests.{IsSound, left_of, pairs_of, state_of};
 
-use crate::Memory;
 use crate::integers::next_integer;
 use crate::points::next_point;
 use crate::rests::{
@@ -13,7 +12,7 @@ use crate::rests::{
 };
 use setl_store_environment::Copied;
 use setl_value::Value;
-use std::alloc::Global;
+use std::alloc::{AllocError, Global};
 use std::marker::Model;
 
 /// What an iterator gives at a step, where None is `om`.
@@ -52,7 +51,7 @@ impl Iterator {
     // The iterator over what is left here.
     //
     // The error is want of memory.
-    pub(crate) fn over(alloc: Global, rest: Rest) -> Result<Iterator, Memory>
+    pub(crate) fn over(alloc: Global, rest: Rest) -> Result<Iterator, AllocError>
         requires { IsSound rest }
         ensures { IfOk result (λ i. i ≡ state_of rest) }
     {
@@ -78,7 +77,7 @@ impl Iterator {
     /// Takes the first item. Its cost is that of copying a value, for an argument of a map with a step for each image.
     ///
     /// The error is want of memory, and then the iterator is as before.
-    pub fn advance(&mut self, alloc: Global) -> Result<Item, Memory>
+    pub fn advance(&mut self, alloc: Global) -> Result<Item, AllocError>
         requires { 0 < length self.old.left }
         ensures first { IfOk result (λ item. self.old.left ≡ plain_item item ∷ self.new.left) }
         ensures kind { IfOk result (λ item. is_pair item ≡ self.old.pairs) }
@@ -90,7 +89,7 @@ impl Iterator {
 }
 
 impl Copied for Iterator {
-    fn copied(&self) -> Result<Iterator, Memory> {
+    fn copied(&self) -> Result<Iterator, AllocError> {
         let rest = copied_rest(&self.rest)?;
         Ok(Iterator {
             rest: Box::new(*Box::allocator(&self.rest), rest)?,
@@ -101,7 +100,7 @@ impl Copied for Iterator {
 // Takes the first item of what is left.
 //
 // The error is want of memory, and then as much is left as before.
-fn next_of(alloc: Global, rest: &mut Rest) -> Result<Item, Memory>
+fn next_of(alloc: Global, rest: &mut Rest) -> Result<Item, AllocError>
     requires sound { IsSound rest.old }
     requires some { 0 < length (left_of rest.old) }
     ensures first { IfOk result (λ item. left_of rest.old ≡ plain_item item ∷ left_of rest.new) }

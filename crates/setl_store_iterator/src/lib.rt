@@ -13,5 +13,4 @@ mod starts;
 
 pub use iterator::{Item, Iterator};
 pub use setl_operators_table::OpFault;
-pub use setl_value::Memory;
 pub use starts::begin;

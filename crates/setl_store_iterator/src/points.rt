@@ -13,10 +13,11 @@ ghost use Rattle.setl_store_iterator.specs.Rests.{Stands};
 
 use crate::iterator::Item;
 use crate::rests::{MemberAt, after, copied, member_at};
-use setl_value::{Memory, SetBody, Value};
+use setl_value::{SetBody, Value};
+use std::alloc::AllocError;
 
 /// Takes the first of the arguments that are left, with its image: `om` where it has several.
-pub(crate) fn next_point(f: &SetBody, at: &mut MemberAt) -> Result<Item, Memory>
+pub(crate) fn next_point(f: &SetBody, at: &mut MemberAt) -> Result<Item, AllocError>
     requires inside { at.old.index < length (Members f.now) }
     requires stands { Stands f.now at.old }
     requires map { is_map (Members f.now) ≡ true }
@@ -34,7 +35,7 @@ pub(crate) fn next_point(f: &SetBody, at: &mut MemberAt) -> Result<Item, Memory>
 }
 
 // An argument with its image.
-fn point(x: &Value, image: Option<&Value>) -> Result<Item, Memory>
+fn point(x: &Value, image: Option<&Value>) -> Result<Item, AllocError>
     ensures point { IfOk result (λ item. plain_item item ≡ Two (Some (datum x.now)) (lent image.entry)) }
     ensures kind { IfOk result (λ item. is_pair item ≡ true) }
 {

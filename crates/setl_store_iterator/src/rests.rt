@@ -10,8 +10,8 @@ ghost use Rattle.setl_store_iterator.specs.Rests.{IsSound, Stands, left_of, pair
 
 use crate::integers::Steps;
 use crate::iterator::Item;
-use setl_value::{Cursor, Memory, SetBody, Text, TupleBody, Value};
-use std::alloc::Global;
+use setl_value::{Cursor, SetBody, Text, TupleBody, Value};
+use std::alloc::{AllocError, Global};
 
 /// An index of a set, and the place of the member there.
 #[derive(Clone, Copy)]
@@ -58,7 +58,7 @@ pub(crate) fn is_paired(rest: &Rest) -> bool
 }
 
 /// The same, which shares its body.
-pub(crate) fn copied_rest(rest: &Rest) -> Result<Rest, Memory>
+pub(crate) fn copied_rest(rest: &Rest) -> Result<Rest, AllocError>
     requires { IsSound rest.now }
     ensures { IfOk result (λ copy. IsSound copy × (state_of copy ≡ state_of rest.now)) }
 {
@@ -74,7 +74,7 @@ pub(crate) fn copied_rest(rest: &Rest) -> Result<Rest, Memory>
 }
 
 /// Takes the first of the members that are left.
-pub(crate) fn next_member(s: &SetBody, at: &mut MemberAt) -> Result<Item, Memory>
+pub(crate) fn next_member(s: &SetBody, at: &mut MemberAt) -> Result<Item, AllocError>
     requires inside { at.old.index < length (Members s.now) }
     requires stands { Stands s.now at.old }
     ensures first { IfOk result (λ item. members (drop at.old.index (Members s.now)) ≡ plain_item item ∷ members (drop at.new.index (Members s.now))) }
@@ -114,7 +114,7 @@ pub(crate) fn after(s: &SetBody, at: MemberAt) -> MemberAt
 }
 
 /// Takes the first of the components that are left.
-pub(crate) fn next_component(t: &TupleBody, at: &mut usize) -> Result<Item, Memory>
+pub(crate) fn next_component(t: &TupleBody, at: &mut usize) -> Result<Item, AllocError>
     requires { at.old < length t.now }
     ensures first { IfOk result (λ item. singles (drop at.old t.now) ≡ plain_item item ∷ singles (drop at.new t.now)) }
     ensures kind { IfOk result (λ item. is_pair item ≡ false) }
@@ -127,7 +127,7 @@ pub(crate) fn next_component(t: &TupleBody, at: &mut usize) -> Result<Item, Memo
 }
 
 /// Takes the first of the places that are left, with its component.
-pub(crate) fn next_place(t: &TupleBody, at: &mut usize) -> Result<Item, Memory>
+pub(crate) fn next_place(t: &TupleBody, at: &mut usize) -> Result<Item, AllocError>
     requires { at.old < length t.now }
     ensures first { IfOk result (λ item. place_points (at.old + 1) (drop at.old t.now) ≡ plain_item item ∷ place_points (at.new + 1) (drop at.new t.now)) }
     ensures kind { IfOk result (λ item. is_pair item ≡ true) }
@@ -143,7 +143,7 @@ pub(crate) fn next_place(t: &TupleBody, at: &mut usize) -> Result<Item, Memory>
 }
 
 /// Takes the first of the bytes that are left, as a string of length 1.
-pub(crate) fn next_letter(alloc: Global, t: &Text, at: &mut usize) -> Result<Item, Memory>
+pub(crate) fn next_letter(alloc: Global, t: &Text, at: &mut usize) -> Result<Item, AllocError>
     requires { at.old < length t.now }
     ensures first { IfOk result (λ item. singles (letters (drop at.old t.now)) ≡ plain_item item ∷ singles (letters (drop at.new t.now))) }
     ensures kind { IfOk result (λ item. is_pair item ≡ false) }
@@ -156,7 +156,7 @@ pub(crate) fn next_letter(alloc: Global, t: &Text, at: &mut usize) -> Result<Ite
 }
 
 /// Takes the first of the places that are left, with its byte as a string of length 1.
-pub(crate) fn next_letter_place(alloc: Global, t: &Text, at: &mut usize) -> Result<Item, Memory>
+pub(crate) fn next_letter_place(alloc: Global, t: &Text, at: &mut usize) -> Result<Item, AllocError>
     requires { at.old < length t.now }
     ensures first { IfOk result (λ item. place_points (at.old + 1) (letters (drop at.old t.now)) ≡ plain_item item ∷ place_points (at.new + 1) (letters (drop at.new t.now))) }
     ensures kind { IfOk result (λ item. is_pair item ≡ true) }
@@ -172,7 +172,7 @@ pub(crate) fn next_letter_place(alloc: Global, t: &Text, at: &mut usize) -> Resu
 }
 
 // The byte at an index, as a string.
-fn letter(alloc: Global, t: &Text, at: usize) -> Result<Value, Memory>
+fn letter(alloc: Global, t: &Text, at: usize) -> Result<Value, AllocError>
     requires { at < length t.now }
     ensures { IfOk result (λ v. datum v ≡ text (get_or t.now at 0 ∷ [])) }
 {
@@ -182,7 +182,7 @@ fn letter(alloc: Global, t: &Text, at: usize) -> Result<Value, Memory>
 }
 
 /// An equal value, or `om`.
-pub(crate) fn copied(v: Option<&Value>) -> Result<Option<Value>, Memory>
+pub(crate) fn copied(v: Option<&Value>) -> Result<Option<Value>, AllocError>
     ensures { IfOk result (λ copy. part copy ≡ lent v.entry) }
 {
     match v {

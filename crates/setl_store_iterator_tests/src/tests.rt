@@ -4,8 +4,8 @@ use setl_program::Source;
 use setl_store_environment::Copied;
 use setl_store_iterator::{Item, Iterator, begin};
 use setl_text::{Got, Reader, text};
-use setl_value::{Memory, Value};
-use std::alloc::Global;
+use setl_value::Value;
+use std::alloc::{AllocError, Global};
 use std::fmt::Write;
 use std::process::Abort;
 use std::test::Fail;
@@ -80,7 +80,7 @@ fn expect_row(rt: &impl Abort, alloc: Global, row: &str, shown: &mut String) -> 
 }
 
 // The row of an iterator that begins as the first word says over the sources behind it.
-fn show_row(alloc: Global, start: &str, shown: &mut String) -> Result<(), Memory> {
+fn show_row(alloc: Global, start: &str, shown: &mut String) -> Result<(), AllocError> {
     write!(shown, "{start} | ")?;
     let (how, sources) = start.split_once(" | ").unwrap_or((start, ""));
     let sources = values(alloc, sources)?;
@@ -93,7 +93,7 @@ fn show_outcome(
     how: Begin,
     sources: &[Option<Value>],
     shown: &mut String,
-) -> Result<(), Memory> {
+) -> Result<(), AllocError> {
     match begin(alloc, how, sources) {
         Ok(mut iterator) => show_items(alloc, &mut iterator, shown),
         Err(e) => write!(shown, "{e:?}"),
@@ -111,7 +111,7 @@ fn begin_of_word(how: &str) -> Begin {
 }
 
 // The values and `om` that these bytes denote, up to 20 of them.
-fn values(alloc: Global, denotations: &str) -> Result<Vec<Option<Value>>, Memory> {
+fn values(alloc: Global, denotations: &str) -> Result<Vec<Option<Value>>, AllocError> {
     let mut source = SureSource::new(denotations.as_bytes().to_vec(alloc)?);
     let mut reader = Reader::new(alloc)?;
     let mut all = Vec::new(alloc);
@@ -123,7 +123,7 @@ fn read_values(
     reader: &mut Reader,
     source: &mut SureSource,
     all: &mut Vec<Option<Value>>,
-) -> Result<(), Memory> {
+) -> Result<(), AllocError> {
     for _ in 0..20 {
         match reader.next(source) {
             Ok(Got::Value(v)) => all.push(Some(v))?,
@@ -135,7 +135,11 @@ fn read_values(
 }
 
 // What the items are, the items, and those that a copy gives which is made behind the first one.
-fn show_items(alloc: Global, iterator: &mut Iterator, shown: &mut String) -> Result<(), Memory> {
+fn show_items(
+    alloc: Global,
+    iterator: &mut Iterator,
+    shown: &mut String,
+) -> Result<(), AllocError> {
     shown.push_str(kind_of(iterator))?;
     show_next(alloc, iterator, shown)?;
     let mut copy = iterator.copied()?;
@@ -153,7 +157,7 @@ fn kind_of(iterator: &Iterator) -> &'static str {
 }
 
 // The items that are left, up to 20.
-fn show_rest(alloc: Global, iterator: &mut Iterator, shown: &mut String) -> Result<(), Memory> {
+fn show_rest(alloc: Global, iterator: &mut Iterator, shown: &mut String) -> Result<(), AllocError> {
     for _ in 0..20 {
         show_next(alloc, iterator, shown)?;
     }
@@ -161,7 +165,7 @@ fn show_rest(alloc: Global, iterator: &mut Iterator, shown: &mut String) -> Resu
 }
 
 // The next item, if one is left.
-fn show_next(alloc: Global, iterator: &mut Iterator, shown: &mut String) -> Result<(), Memory> {
+fn show_next(alloc: Global, iterator: &mut Iterator, shown: &mut String) -> Result<(), AllocError> {
     if iterator.is_at_end() {
         return Ok(());
     }
@@ -169,7 +173,7 @@ fn show_next(alloc: Global, iterator: &mut Iterator, shown: &mut String) -> Resu
     show_item(alloc, &item, shown)
 }
 
-fn show_item(alloc: Global, item: &Item, shown: &mut String) -> Result<(), Memory> {
+fn show_item(alloc: Global, item: &Item, shown: &mut String) -> Result<(), AllocError> {
     match item {
         Item::One(v) => show(alloc, " ", v, shown),
         Item::Two { argument, image } => {
@@ -180,7 +184,12 @@ fn show_item(alloc: Global, item: &Item, shown: &mut String) -> Result<(), Memor
 }
 
 // A value or `om`, behind what stands before it.
-fn show(alloc: Global, before: &str, v: &Option<Value>, shown: &mut String) -> Result<(), Memory> {
+fn show(
+    alloc: Global,
+    before: &str,
+    v: &Option<Value>,
+    shown: &mut String,
+) -> Result<(), AllocError> {
     shown.push_str(before)?;
     match v {
         Some(v) => show_bytes(text(alloc, v)?.as_slice(), shown),
@@ -188,7 +197,7 @@ fn show(alloc: Global, before: &str, v: &Option<Value>, shown: &mut String) -> R
     }
 }
 
-fn show_bytes(bytes: &[u8], shown: &mut String) -> Result<(), Memory> {
+fn show_bytes(bytes: &[u8], shown: &mut String) -> Result<(), AllocError> {
     for byte in bytes {
         shown.push(char::from(*byte))?;
     }

@@ -2,10 +2,11 @@
 
 use setl_program::Collection;
 use setl_rep_forms::Held;
-use setl_store_environment::{Copied, Memory};
+use setl_store_environment::Copied;
 use setl_store_iterator::Iterator;
 use setl_store_slots::Shared;
 use setl_value::Value;
+use std::alloc::AllocError;
 
 /// An operand.
 #[derive(Drop)]
@@ -26,7 +27,7 @@ pub struct Member {
 }
 
 impl Copied for Operand {
-    fn copied(&self) -> Result<Operand, Memory> {
+    fn copied(&self) -> Result<Operand, AllocError> {
         match self {
             Operand::Om => Ok(Operand::Om),
             Operand::Value(value) => Ok(Operand::Value(value.copy()?)),
@@ -40,7 +41,7 @@ impl Copied for Operand {
 }
 
 impl Copied for Member {
-    fn copied(&self) -> Result<Member, Memory> {
+    fn copied(&self) -> Result<Member, AllocError> {
         match &self.value {
             None => Ok(Member { value: None }),
             Some(value) => Ok(Member {

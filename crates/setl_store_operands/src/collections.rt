@@ -11,16 +11,15 @@ ghost use Rattle.setl_store_operands.specs.Operands.{member_of, present, GotAll}
 use crate::cells::Member;
 use setl_map::gathered;
 use setl_program::Collection;
-use setl_store_environment::Memory;
 use setl_value::{SetBody, TupleBody, Value};
-use std::alloc::Global;
+use std::alloc::{AllocError, Global};
 
 /// The set or tuple of members of which it refuses none.
 pub(crate) fn collection(
     alloc: Global,
     what: Collection,
     members: Vec<Member>,
-) -> Result<Value, Memory>
+) -> Result<Value, AllocError>
     requires { GotAll what (reverse (map member_of members.items)) }
     ensures { IfOk result (λ value. datum value ≡ collection what (reverse (map member_of members.items))) }
 {
@@ -31,7 +30,7 @@ pub(crate) fn collection(
 }
 
 /// The set of these members, which may come in any order and with repeats.
-fn set(alloc: Global, members: Vec<Member>) -> Result<SetBody, Memory>
+fn set(alloc: Global, members: Vec<Member>) -> Result<SetBody, AllocError>
     requires { GotAll kind.OfSet (reverse (map member_of members.items)) }
     ensures { IfOk result (λ set. set_of (Members set) ≡ collection kind.OfSet (reverse (map member_of members.items))) }
 {
@@ -41,7 +40,7 @@ fn set(alloc: Global, members: Vec<Member>) -> Result<SetBody, Memory>
 }
 
 /// The tuple of these components, without the `om` at their end.
-fn tuple(alloc: Global, members: Vec<Member>) -> Result<TupleBody, Memory>
+fn tuple(alloc: Global, members: Vec<Member>) -> Result<TupleBody, AllocError>
     requires { GotAll kind.OfTuple (reverse (map member_of members.items)) }
     ensures { IfOk result (λ tuple. tuple_of tuple ≡ collection kind.OfTuple (reverse (map member_of members.items))) }
 {
@@ -49,7 +48,7 @@ fn tuple(alloc: Global, members: Vec<Member>) -> Result<TupleBody, Memory>
 }
 
 /// Those of some members that are no `om`.
-fn present(alloc: Global, members: Vec<Member>) -> Result<Vec<Value>, Memory>
+fn present(alloc: Global, members: Vec<Member>) -> Result<Vec<Value>, AllocError>
     ensures { IfOk result (λ values. map datum values.items ≡ present (map member_of members.items)) }
 {
     let mut values = Vec::with_capacity(alloc, members.len())?;
@@ -60,7 +59,7 @@ fn present(alloc: Global, members: Vec<Member>) -> Result<Vec<Value>, Memory>
 }
 
 /// Puts the value of a member at the end, if it is no `om`.
-fn push_present(member: Member, values: &mut Vec<Value>) -> Result<(), Memory>
+fn push_present(member: Member, values: &mut Vec<Value>) -> Result<(), AllocError>
     ensures { OnOk result (map datum values.new.items ≡ map datum values.old.items ++ present (member_of member ∷ [])) }
 {
     if let Some(value) = member.value {
@@ -70,7 +69,7 @@ fn push_present(member: Member, values: &mut Vec<Value>) -> Result<(), Memory>
 }
 
 /// Members as components of a tuple.
-fn components(alloc: Global, members: Vec<Member>) -> Result<Vec<Option<Value>>, Memory>
+fn components(alloc: Global, members: Vec<Member>) -> Result<Vec<Option<Value>>, AllocError>
     ensures { IfOk result (λ values. values.items ≡ map (λ member. member.value) members.items) }
 {
     members

@@ -9,5 +9,4 @@ mod values;
 
 pub use cells::{Member, Operand};
 pub use lent::{AsHeld, Lent, in_form, lend, plain_in};
-pub use setl_store_environment::Memory;
 pub use values::{is_value, operand, operand_in, served, value};

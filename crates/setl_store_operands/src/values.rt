@@ -9,10 +9,10 @@ use crate::cells::{Member, Operand};
 use crate::collections::collection;
 use setl_rep_bases::Bases;
 use setl_rep_plain::plain;
-use setl_store_environment::{Environment, Memory};
+use setl_store_environment::Environment;
 use setl_store_slots::Held;
 use setl_value::Value;
-use std::alloc::Global;
+use std::alloc::{AllocError, Global};
 
 /// An operand that is this value.
 #[inline(always)]
@@ -31,7 +31,7 @@ pub fn operand(value: Option<Value>) -> Operand
 /// The operand that is what a slot holds, in its form, which both then share.
 ///
 /// The error is want of memory.
-pub fn operand_in(slot: &Held) -> Result<Operand, Memory>
+pub fn operand_in(slot: &Held) -> Result<Operand, AllocError>
     ensures { IfOk result (λ operand. operand ≡ operand_in slot.now) }
 {
     match slot {
@@ -69,7 +69,7 @@ pub fn served<S: Drop, A: Drop, F: Drop, K: Drop>(
     environment: &Environment<S, Operand, A, Member, F, K>,
     bases: &Bases,
     operand: &Operand,
-) -> Result<Option<Value>, Memory>
+) -> Result<Option<Value>, AllocError>
     requires { Serves bases.now environment.now.now.members operand.now }
     ensures { IfOk result (λ value. value_of (operand_of bases.now environment.now.now.members operand.now) ≡ Some (part value)) }
 {

@@ -9,9 +9,9 @@ use crate::shared::Shared;
 use setl_modes::Mode;
 use setl_rep_bases::Bases;
 use setl_rep_plain::plain;
-use setl_store_environment::{Copied, Memory};
+use setl_store_environment::Copied;
 use setl_value::Value;
-use std::alloc::Global;
+use std::alloc::{AllocError, Global};
 
 /// What a slot holds.
 #[derive(Drop)]
@@ -25,7 +25,7 @@ pub enum Held {
 }
 
 impl Copied for Held {
-    fn copied(&self) -> Result<Held, Memory> {
+    fn copied(&self) -> Result<Held, AllocError> {
         match self {
             Held::Om => Ok(Held::Om),
             Held::Value(value) => Ok(Held::Value(value.copy()?)),
@@ -38,7 +38,11 @@ impl Copied for Held {
 /// The plain value, or `om`, that a slot holds, whose form stands over these bases; or None where it was taken.
 ///
 /// The error is want of memory.
-pub fn content(alloc: Global, slot: &Held, bases: &Bases) -> Result<Option<Option<Value>>, Memory>
+pub fn content(
+    alloc: Global,
+    slot: &Held,
+    bases: &Bases,
+) -> Result<Option<Option<Value>>, AllocError>
     requires { IsStanding bases.now slot.now }
     ensures { IfOk result (λ content. content_of bases.now slot.now ≡ option_map part content) }
 {

@@ -16,14 +16,18 @@ use setl_modes::Mode;
 use setl_rep_bases::Bases;
 use setl_rep_building::in_form;
 use setl_rep_entering::{base_marks, enter_places, take_back};
-use setl_store_environment::Memory;
 use setl_value::Value;
-use std::alloc::Global;
+use std::alloc::{AllocError, Global};
 
 /// A slot that holds a value in the form of a mode which it fits; the values at its places are entered into their bases.
 ///
 /// The error is want of memory, and then the bases are as before. The cost is near linear in the size of the value.
-pub fn formed(alloc: Global, mode: &Mode, value: &Value, bases: &mut Bases) -> Result<Held, Memory>
+pub fn formed(
+    alloc: Global,
+    mode: &Mode,
+    value: &Value,
+    bases: &mut Bases,
+) -> Result<Held, AllocError>
     requires fits { datum_fits (mode_of mode.now) (datum value.now) ≡ true }
     requires there { BasesAreThere bases.old 0 (mode_of mode.now) }
     ensures standing { IfOk result (IsStanding bases.new) }
@@ -44,7 +48,7 @@ pub fn formed(alloc: Global, mode: &Mode, value: &Value, bases: &mut Bases) -> R
 }
 
 // The same where all values at its places are members of their bases.
-fn in_slot(alloc: Global, mode: &Mode, value: &Value, bases: &Bases) -> Result<Held, Memory>
+fn in_slot(alloc: Global, mode: &Mode, value: &Value, bases: &Bases) -> Result<Held, AllocError>
     requires fits { datum_fits (mode_of mode.now) (datum value.now) ≡ true }
     requires found { PlacesAreFound bases.now 0 (mode_of mode.now) (datum value.now) }
     requires there { BasesAreThere bases.now 0 (mode_of mode.now) }

@@ -8,10 +8,10 @@ ghost use Rattle.setl_store_slots.specs.Slots.{AreStanding, IsStanding};
 
 use crate::cells::{Held, content};
 use setl_rep_bases::Bases;
-use setl_store_environment::{Environment, Memory};
+use setl_store_environment::Environment;
 use setl_tree::{Param, Passing};
 use setl_value::Value;
-use std::alloc::Global;
+use std::alloc::{AllocError, Global};
 
 /// The result of a body, and behind it what its `wr` and `rw` parameters hold, the first one last; or None where one of
 /// these was taken. The parameters have the slots from `lowest` on, and the forms of what these hold stand over the bases.
@@ -24,7 +24,7 @@ pub fn handed_back<O: Drop, A: Drop, M: Drop, F: Drop, K: Drop>(
     bases: &Bases,
     lowest: usize,
     value: Option<Value>,
-) -> Result<Option<Vec<Option<Value>>>, Memory>
+) -> Result<Option<Vec<Option<Value>>>, AllocError>
     requires slots { lowest + length parameters.now ≤ length environment.now.now.slots }
     requires standing { AreStanding bases.now environment.now.now.slots }
     ensures { IfOk result (λ all. handed bases.now parameters.now (drop lowest environment.now.now.slots) (part value) ≡ option_map (λ values. map part values.items) all) }
@@ -55,7 +55,7 @@ fn add_handed(
     slot: &Held,
     bases: &Bases,
     all: &mut Vec<Option<Value>>,
-) -> Result<bool, Memory>
+) -> Result<bool, AllocError>
     requires { IsStanding bases.now slot.now }
     ensures { IfOk result (λ done. Adds (and_handed bases.now passing slot.now (Some (map part all.old.items))) done (map part all.new.items)) }
 {
@@ -71,7 +71,7 @@ fn add_held(
     slot: &Held,
     bases: &Bases,
     all: &mut Vec<Option<Value>>,
-) -> Result<bool, Memory>
+) -> Result<bool, AllocError>
     requires { IsStanding bases.now slot.now }
     ensures { IfOk result (λ done. Adds (and_held bases.now slot.now (Some (map part all.old.items))) done (map part all.new.items)) }
 {

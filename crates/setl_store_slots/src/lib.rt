@@ -12,6 +12,5 @@ mod updating;
 pub use cells::{Held, content};
 pub use forming::formed;
 pub use handing::handed_back;
-pub use setl_store_environment::Memory;
 pub use shared::Shared;
 pub use updating::update;

@@ -4,13 +4,12 @@ ghost use Rattle.std.specs.Prelude.{◌≡◌, IfOk};
 ghost use Rattle.setl_modes.specs.Modes.{mode_of};
 
 use setl_modes::Mode;
-use setl_store_environment::Memory;
 use setl_tree::Boxed;
-use std::alloc::Global;
+use std::alloc::{AllocError, Global};
 
 /// A copy of a mode. The error is want of memory.
 #[cycle(copying)]
-pub(crate) fn copied(alloc: Global, mode: &Mode) -> Result<Mode, Memory>
+pub(crate) fn copied(alloc: Global, mode: &Mode) -> Result<Mode, AllocError>
     ensures { IfOk result (λ m. mode_of m ≡ mode_of mode.now) }
 {
     match mode {
@@ -29,7 +28,7 @@ pub(crate) fn copied(alloc: Global, mode: &Mode) -> Result<Mode, Memory>
 
 // The same in a box.
 #[cycle(copying)]
-fn boxed(alloc: Global, mode: &Mode) -> Result<Boxed<Mode>, Memory>
+fn boxed(alloc: Global, mode: &Mode) -> Result<Boxed<Mode>, AllocError>
     ensures { IfOk result (λ m. mode_of m ≡ mode_of mode.now) }
 {
     Boxed::new(alloc, copied(alloc, mode)?)

@@ -2,8 +2,7 @@
 
 ghost use Rattle.std.specs.Prelude.{◌≡◌, IfOk};
 
-use setl_store_environment::Memory;
-use std::alloc::Global;
+use std::alloc::{AllocError, Global};
 use std::marker::Model;
 use std::rc::Rc;
 
@@ -32,7 +31,7 @@ impl<T> Shared<T> {
 
 impl<T: Drop> Shared<T> {
     /// A value with one owner. The error is want of memory.
-    pub fn new(alloc: Global, value: T) -> Result<Shared<T>, Memory>
+    pub fn new(alloc: Global, value: T) -> Result<Shared<T>, AllocError>
         ensures { IfOk result (λ s. s ≡ value) }
     {
         Ok(Shared {
@@ -41,7 +40,7 @@ impl<T: Drop> Shared<T> {
     }
 
     /// One more owner. The error is that there are too many.
-    pub fn copy(&self) -> Result<Shared<T>, Memory>
+    pub fn copy(&self) -> Result<Shared<T>, AllocError>
         ensures { IfOk result (λ s. s ≡ self.now) }
     {
         Ok(Shared {

@@ -14,8 +14,7 @@ use crate::shared::Shared;
 use setl_modes::Mode;
 use setl_rep_bases::Bases;
 use setl_rep_updates::Change;
-use setl_store_environment::Memory;
-use std::alloc::Global;
+use std::alloc::{AllocError, Global};
 use std::rc::Rc;
 
 /// Does this to the set or map that a slot holds in a form, in place; values at its places are entered into their bases first.
@@ -28,7 +27,7 @@ pub fn update(
     slot: &mut Held,
     change: &Change,
     bases: &mut Bases,
-) -> Result<bool, Memory>
+) -> Result<bool, AllocError>
     requires { IsStanding bases.old slot.old }
     ensures { IsSlotUpdate (given_by change.now) bases.old bases.new slot.old slot.new result }
 {
@@ -46,7 +45,7 @@ fn update_in(
     held: &mut Shared<setl_rep_forms::Held>,
     change: &Change,
     bases: &mut Bases,
-) -> Result<bool, Memory>
+) -> Result<bool, AllocError>
     requires { IsInForm bases.old 0 (mode_of mode.now) (form held.old) }
     ensures { IsUpdate (mode_of mode.now) 0 (given_by change.now (stands bases.old (form held.old))) bases.old bases.new (form held.old) (form held.new) result }
 {

@@ -12,7 +12,8 @@ mod scan;
 mod texts;
 
 pub use read::Reader;
-use setl_value::{Memory, Value};
+use setl_value::Value;
+use std::alloc::AllocError;
 pub use texts::{line, push_decimal, push_integer, push_quoted, text};
 
 /// What was read: a value, `om`, or only blanks up to the end of the input.
@@ -38,13 +39,13 @@ pub enum ReadFault {
     NoMemory,
 }
 
-impl From<Memory> for ReadFault {
+impl From<AllocError> for ReadFault {
     ghost use Rattle.std.specs.Prelude.{◌≡◌};
     ghost use Rattle.setl_text.specs.declared.ReadFault.TheVariants.{NoMemory};
 
     ghost from_gives = { λ _ e. e ≡ NoMemory };
 
-    fn from(_e: Memory) -> ReadFault {
+    fn from(_e: AllocError) -> ReadFault {
         ReadFault::NoMemory
     }
 }

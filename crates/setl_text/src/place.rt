@@ -12,8 +12,8 @@ ghost use Rattle.setl_text.specs.code.Scans.{open_of, opens, IsShallow, Places, 
 use crate::ReadFault;
 use crate::scan::{Fed, Piece};
 use setl_set::laws::{operations_have_their_members, rising_lists_agree};
-use setl_value::{Memory, SetBody, TupleBody, Value};
-use std::alloc::Global;
+use setl_value::{SetBody, TupleBody, Value};
+use std::alloc::{AllocError, Global};
 
 /// A set or tuple that isn't closed yet, with what stands in it so far.
 #[derive(Drop)]
@@ -131,7 +131,7 @@ pub(crate) fn close_tuple(alloc: Global, opened: &mut Vec<Collection>) -> Result
 }
 
 // The set of these values.
-fn make_set(alloc: Global, values: Vec<Value>) -> Result<Value, Memory>
+fn make_set(alloc: Global, values: Vec<Value>) -> Result<Value, AllocError>
     requires { depth (set_of (map datum values.items)) ≤ 500 }
     ensures { IfOk result (λ v. datum v ≡ set_of (set_from (map datum values.items))) }
 {
@@ -141,7 +141,7 @@ fn make_set(alloc: Global, values: Vec<Value>) -> Result<Value, Memory>
 }
 
 // The values in rising order, each once.
-fn rising(values: Vec<Value>) -> Result<Vec<Value>, Memory>
+fn rising(values: Vec<Value>) -> Result<Vec<Value>, AllocError>
     ensures { IfOk result (λ v. map datum v.items ≡ set_from (map datum values.items)) }
 {
     rising_lists_agree();

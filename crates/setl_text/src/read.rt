@@ -11,8 +11,8 @@ use crate::place::Collection;
 use crate::scan::{Fed, Piece, feed, finish};
 use crate::{Got, ReadFault};
 use setl_io::{Source, Took};
-use setl_value::{Memory, Value};
-use std::alloc::Global;
+use setl_value::Value;
+use std::alloc::{AllocError, Global};
 use std::marker::Model;
 
 /// Reads denotations one after another. It asks an input for at most 4,096 bytes at a time, and only where those that
@@ -48,7 +48,7 @@ pub(crate) enum Scanned {
 
 impl Reader {
     /// A reader that keeps no byte, with room for 4,096. The error is want of memory.
-    pub fn new(alloc: Global) -> Result<Reader, Memory>
+    pub fn new(alloc: Global) -> Result<Reader, AllocError>
         ensures { IfOk result (λ r. r ≡ record { kept = []; ended = false; fault = None }) }
     {
         Ok(Reader {

@@ -10,8 +10,8 @@ ghost use Rattle.setl_text.specs.Texts.{argument_text, doubled, inner_text, part
 ghost use Rattle.setl_text.specs.code.TextParts.{blank_before, component_text};
 
 use itoa::Buffer;
-use setl_value::{Memory, SetBody, Text, TupleBody, Value};
-use std::alloc::Global;
+use setl_value::{SetBody, Text, TupleBody, Value};
+use std::alloc::{AllocError, Global};
 
 /// The text of a value as it stands inside another value.
 ///
@@ -19,7 +19,7 @@ use std::alloc::Global;
 /// apostrophes with each apostrophe doubled, a tuple between `[` and `]`, a set in canonical order between `{` and `}`,
 /// with one blank between two texts and `*` for `om`. None of its bytes is 10, so it can be a string. The error is want
 /// of memory.
-pub fn text(alloc: Global, v: &Value) -> Result<Vec<u8>, Memory>
+pub fn text(alloc: Global, v: &Value) -> Result<Vec<u8>, AllocError>
     ensures text { IfOk result (λ t. t.items ≡ inner_text (datum v.now)) }
     ensures no_line_end { IfOk result (λ t. All (λ b. (b ≡ 10) → ⊥) t.items) }
 {
@@ -32,7 +32,7 @@ pub fn text(alloc: Global, v: &Value) -> Result<Vec<u8>, Memory>
 /// The line that `print` writes: the texts of its arguments with one blank between two, and byte 10.
 ///
 /// A string stands as it is where it is an argument, and `om`, which is `None`, is `*`. The error is want of memory.
-pub fn line(alloc: Global, vs: &[Option<Value>]) -> Result<Vec<u8>, Memory>
+pub fn line(alloc: Global, vs: &[Option<Value>]) -> Result<Vec<u8>, AllocError>
     ensures { IfOk result (λ l. l.items ≡ print_line (map part vs.now)) }
 {
     let mut into = Vec::new(alloc);
@@ -45,7 +45,7 @@ pub fn line(alloc: Global, vs: &[Option<Value>]) -> Result<Vec<u8>, Memory>
 }
 
 // Adds the text of an argument of `print`.
-fn push_argument(into: &mut Vec<u8>, v: &Option<Value>) -> Result<(), Memory>
+fn push_argument(into: &mut Vec<u8>, v: &Option<Value>) -> Result<(), AllocError>
     ensures { OnOk result (into.new.items ≡ into.old.items ++ argument_text (part v.now)) }
 {
     match v {
@@ -59,7 +59,7 @@ fn push_argument(into: &mut Vec<u8>, v: &Option<Value>) -> Result<(), Memory>
 }
 
 // Adds the blank that stands before the i-th of some texts.
-fn push_blank(into: &mut Vec<u8>, i: usize) -> Result<(), Memory>
+fn push_blank(into: &mut Vec<u8>, i: usize) -> Result<(), AllocError>
     ensures { OnOk result (into.new.items ≡ into.old.items ++ blank_before i) }
 {
     if i > 0 {
@@ -72,7 +72,7 @@ fn push_blank(into: &mut Vec<u8>, i: usize) -> Result<(), Memory>
 
 // Adds the text of a value inside another one.
 #[cycle(texts)]
-fn push_inner(into: &mut Vec<u8>, v: &Value) -> Result<(), Memory>
+fn push_inner(into: &mut Vec<u8>, v: &Value) -> Result<(), AllocError>
     ensures { OnOk result (into.new.items ≡ into.old.items ++ inner_text (datum v.now)) }
 {
     match v {
@@ -87,7 +87,7 @@ fn push_inner(into: &mut Vec<u8>, v: &Value) -> Result<(), Memory>
 
 // Adds the text of a set.
 #[cycle(texts)]
-fn push_set(into: &mut Vec<u8>, s: &SetBody) -> Result<(), Memory>
+fn push_set(into: &mut Vec<u8>, s: &SetBody) -> Result<(), AllocError>
     ensures { OnOk result (into.new.items ≡ into.old.items ++ inner_text (set_of (Members s.now))) }
 {
     into.push(b'{')?;
@@ -98,7 +98,7 @@ fn push_set(into: &mut Vec<u8>, s: &SetBody) -> Result<(), Memory>
 
 // Adds the texts of the members with one blank between two.
 #[cycle(texts)]
-fn push_members(into: &mut Vec<u8>, s: &SetBody) -> Result<(), Memory>
+fn push_members(into: &mut Vec<u8>, s: &SetBody) -> Result<(), AllocError>
     ensures { OnOk result (into.new.items ≡ into.old.items ++ spaced (map inner_text (Members s.now))) }
 {
     let mut members = s.members();
@@ -115,7 +115,7 @@ fn push_members(into: &mut Vec<u8>, s: &SetBody) -> Result<(), Memory>
 
 // Adds the text of a tuple.
 #[cycle(texts)]
-fn push_tuple(into: &mut Vec<u8>, t: &TupleBody) -> Result<(), Memory>
+fn push_tuple(into: &mut Vec<u8>, t: &TupleBody) -> Result<(), AllocError>
     ensures { OnOk result (into.new.items ≡ into.old.items ++ inner_text (tuple_of t.now)) }
 {
     into.push(b'[')?;
@@ -126,7 +126,7 @@ fn push_tuple(into: &mut Vec<u8>, t: &TupleBody) -> Result<(), Memory>
 
 // Adds the texts of the components with one blank between two.
 #[cycle(texts)]
-fn push_parts(into: &mut Vec<u8>, t: &TupleBody) -> Result<(), Memory>
+fn push_parts(into: &mut Vec<u8>, t: &TupleBody) -> Result<(), AllocError>
     ensures { OnOk result (into.new.items ≡ into.old.items ++ spaced (map component_text t.now)) }
 {
     'parts: for i in 0..t.len() {
@@ -138,7 +138,7 @@ fn push_parts(into: &mut Vec<u8>, t: &TupleBody) -> Result<(), Memory>
 
 // Adds the text of the i-th component.
 #[cycle(texts)]
-fn push_part(into: &mut Vec<u8>, t: &TupleBody, i: usize) -> Result<(), Memory>
+fn push_part(into: &mut Vec<u8>, t: &TupleBody, i: usize) -> Result<(), AllocError>
     requires { i < length t.now }
     ensures { (p : _) → slice_get t.now i ≡ Some p → OnOk result (into.new.items ≡ into.old.items ++ component_text p) }
 {
@@ -152,7 +152,7 @@ fn push_part(into: &mut Vec<u8>, t: &TupleBody, i: usize) -> Result<(), Memory>
 }
 
 // Adds the text of a boolean.
-fn push_boolean(into: &mut Vec<u8>, b: bool) -> Result<(), Memory>
+fn push_boolean(into: &mut Vec<u8>, b: bool) -> Result<(), AllocError>
     ensures { OnOk result (into.new.items ≡ into.old.items ++ inner_text (bool b)) }
 {
     if b {
@@ -163,7 +163,7 @@ fn push_boolean(into: &mut Vec<u8>, b: bool) -> Result<(), Memory>
 }
 
 /// Adds an integer in decimal. The error is want of memory.
-pub fn push_integer(into: &mut Vec<u8>, z: i128) -> Result<(), Memory>
+pub fn push_integer(into: &mut Vec<u8>, z: i128) -> Result<(), AllocError>
     ensures { OnOk result (into.new.items ≡ into.old.items ++ signed_decimal z) }
 {
     let mut buffer = Buffer::new();
@@ -171,7 +171,7 @@ pub fn push_integer(into: &mut Vec<u8>, z: i128) -> Result<(), Memory>
 }
 
 /// Adds a number in decimal. The error is want of memory.
-pub fn push_decimal(into: &mut Vec<u8>, n: u64) -> Result<(), Memory>
+pub fn push_decimal(into: &mut Vec<u8>, n: u64) -> Result<(), AllocError>
     ensures { OnOk result (into.new.items ≡ into.old.items ++ decimal n) }
 {
     let mut buffer = Buffer::new();
@@ -179,7 +179,7 @@ pub fn push_decimal(into: &mut Vec<u8>, n: u64) -> Result<(), Memory>
 }
 
 // Adds the text of an atom.
-fn push_atom(into: &mut Vec<u8>, n: u64) -> Result<(), Memory>
+fn push_atom(into: &mut Vec<u8>, n: u64) -> Result<(), AllocError>
     ensures { OnOk result (into.new.items ≡ into.old.items ++ 35 ∷ decimal n) }
 {
     into.push(b'#')?;
@@ -188,7 +188,7 @@ fn push_atom(into: &mut Vec<u8>, n: u64) -> Result<(), Memory>
 
 /// Adds the text of a string of these bytes inside another value: between apostrophes, each apostrophe in it doubled. The
 /// error is want of memory.
-pub fn push_quoted(into: &mut Vec<u8>, bytes: &[u8]) -> Result<(), Memory>
+pub fn push_quoted(into: &mut Vec<u8>, bytes: &[u8]) -> Result<(), AllocError>
     ensures { OnOk result (into.new.items ≡ into.old.items ++ inner_text (text bytes.now)) }
 {
     into.push(b'\'')?;
@@ -198,7 +198,7 @@ pub fn push_quoted(into: &mut Vec<u8>, bytes: &[u8]) -> Result<(), Memory>
 }
 
 // Adds some bytes with each apostrophe doubled.
-fn push_doubled(into: &mut Vec<u8>, bytes: &[u8]) -> Result<(), Memory>
+fn push_doubled(into: &mut Vec<u8>, bytes: &[u8]) -> Result<(), AllocError>
     ensures { OnOk result (into.new.items ≡ into.old.items ++ doubled bytes.now) }
 {
     for b in bytes {
@@ -208,7 +208,7 @@ fn push_doubled(into: &mut Vec<u8>, bytes: &[u8]) -> Result<(), Memory>
 }
 
 // Adds a byte, twice if it is an apostrophe.
-fn push_byte(into: &mut Vec<u8>, b: u8) -> Result<(), Memory>
+fn push_byte(into: &mut Vec<u8>, b: u8) -> Result<(), AllocError>
     ensures { OnOk result (into.new.items ≡ into.old.items ++ doubled (b ∷ [])) }
 {
     if b == b'\'' {

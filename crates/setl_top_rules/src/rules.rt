@@ -7,7 +7,7 @@ ghost use Rattle.setl_top_rules.specs.Rules.{AreModes, KeepsRules, breaking_name
 
 use setl_modes::NamedMode;
 use setl_modes_declarations::modes;
-use setl_names::{BodyNames, Break, Memory, RuleFault, noted};
+use setl_names::{BodyNames, Break, RuleFault, noted};
 use setl_names_walk::resolve_all;
 use setl_tree::{Items, Text, Tree};
 use std::alloc::{AllocError, Global};
@@ -18,7 +18,7 @@ fn first_of_declarations(
     alloc: Global,
     tree: &Tree,
     bodies: &[BodyNames],
-) -> Result<(Option<Break>, Items<NamedMode>), Memory>
+) -> Result<(Option<Break>, Items<NamedMode>), AllocError>
     requires { bodies.now ≡ all_names tree.now }
     ensures first { IfOk result (λ found. found.0 ≡ first_break (declarations.breaks tree.now)) }
     ensures modes { IfOk result (λ found. found.0 ≡ None → AreModes tree.now found.1) }
@@ -28,7 +28,7 @@ fn first_of_declarations(
         Err(RuleFault::Broken { rule, line }) => {
             Ok((Some(Break { line, rule }), Items::new(alloc)))
         }
-        Err(RuleFault::NoMemory) => Err(Memory),
+        Err(RuleFault::NoMemory) => Err(AllocError),
     }
 }
 

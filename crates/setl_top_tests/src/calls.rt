@@ -1,10 +1,10 @@
 //! Calls of the program over an outside in memory.
 
 use crate::rows::{BETWEEN, fields, text};
-use setl_io::{MemFiles, MemSink, MemSource, Memory};
+use setl_io::{MemFiles, MemSink, MemSource};
 use setl_top::{Status, setl};
 use setl_watch::{Cover, Profile, Trace, Watcher};
-use std::alloc::Global;
+use std::alloc::{AllocError, Global};
 use std::process::Abort;
 
 /// Which calls of the outside fail, 0 for none, and how many bytes the output takes a call.
@@ -63,7 +63,7 @@ impl Left {
 }
 
 /// The words of a line.
-fn words_of(alloc: Global, line: &str) -> Result<Vec<String>, Memory> {
+fn words_of(alloc: Global, line: &str) -> Result<Vec<String>, AllocError> {
     let mut words = Vec::new(alloc);
     for word in line.split_whitespace() {
         words.push(String::from_str(alloc, word)?)?;
@@ -80,18 +80,18 @@ struct Outside {
 }
 
 /// Files in which this source is `a`.
-fn files_of(alloc: Global, source: &[u8], fails: u64) -> Result<MemFiles, Memory> {
+fn files_of(alloc: Global, source: &[u8], fails: u64) -> Result<MemFiles, AllocError> {
     let text = source.to_vec(alloc)?;
     let mut files = MemFiles::new(alloc, vec![in alloc; fails]?)?;
     files.add(String::from_str(alloc, "a")?, text)?;
     Ok(files)
 }
 
-fn sink(alloc: Global, most: usize, fails: u64) -> Result<MemSink, Memory> {
+fn sink(alloc: Global, most: usize, fails: u64) -> Result<MemSink, AllocError> {
     MemSink::new(alloc, most, vec![in alloc; fails]?)
 }
 
-fn outside_of(alloc: Global, source: &[u8], faults: Faults) -> Result<Outside, Memory> {
+fn outside_of(alloc: Global, source: &[u8], faults: Faults) -> Result<Outside, AllocError> {
     let files = files_of(alloc, source, faults.load)?;
     let out = sink(alloc, faults.most, faults.write)?;
     let err = sink(alloc, 99, faults.tell)?;
@@ -110,7 +110,7 @@ fn called(
     watchers: Vec<Box<dyn Watcher>>,
     outside: &mut Outside,
     input: &mut MemSource,
-) -> Result<Left, Memory> {
+) -> Result<Left, AllocError> {
     let words = words_of(alloc, line)?;
     let status = setl(
         alloc,
@@ -131,7 +131,7 @@ pub fn call_watched(
     alloc: Global,
     source: &str,
     watchers: Vec<Box<dyn Watcher>>,
-) -> Result<Left, Memory> {
+) -> Result<Left, AllocError> {
     let mut outside = outside_of(alloc, source.as_bytes(), NO_FAULTS)?;
     let mut input = no_input(alloc);
     called(
@@ -150,7 +150,7 @@ pub fn call_with(
     source: &[u8],
     input: &mut MemSource,
     faults: Faults,
-) -> Result<Left, Memory> {
+) -> Result<Left, AllocError> {
     let mut watchers: Vec<Box<dyn Watcher>> = Vec::new(alloc);
     watchers.push(Box::new(alloc, Trace::new(alloc)?)?)?;
     watchers.push(Box::new(alloc, Cover::new(alloc)?)?)?;
@@ -160,13 +160,13 @@ pub fn call_with(
 }
 
 /// A call without an input.
-pub fn call(alloc: Global, line: &str, source: &[u8], faults: Faults) -> Result<Left, Memory> {
+pub fn call(alloc: Global, line: &str, source: &[u8], faults: Faults) -> Result<Left, AllocError> {
     let mut input = no_input(alloc);
     call_with(alloc, line, source, &mut input, faults)
 }
 
 /// A call without an input, over an outside that doesn't fail. The last line end of the source is left out.
-pub fn answer(alloc: Global, line: &str, source: &str) -> Result<Left, Memory> {
+pub fn answer(alloc: Global, line: &str, source: &str) -> Result<Left, AllocError> {
     call(alloc, line, text(source).as_bytes(), NO_FAULTS)
 }
 
@@ -176,7 +176,7 @@ pub fn expect_calls(
     alloc: Global,
     status: Status,
     table: &str,
-) -> Result<(), Memory> {
+) -> Result<(), AllocError> {
     for row in table.split(BETWEEN) {
         let [line, source, out, err, _] = fields(row);
         let left = answer(alloc, line, source)?;
@@ -187,7 +187,7 @@ pub fn expect_calls(
 
 /// A call with these words and a program over an outside that doesn't fail. The body has the program's declarations,
 /// statements and procedures, which begin on line 1; its last line end is left out. A byte of the input comes a call.
-pub fn run_with(alloc: Global, line: &str, body: &str, input: &str) -> Result<Left, Memory> {
+pub fn run_with(alloc: Global, line: &str, body: &str, input: &str) -> Result<Left, AllocError> {
     let body = text(body);
     let source = format!(in alloc; "program p; {body} end program;")?;
     call_on(alloc, line, source.as_bytes(), input, NO_FAULTS)
@@ -200,19 +200,24 @@ pub fn call_on(
     source: &[u8],
     input: &str,
     faults: Faults,
-) -> Result<Left, Memory> {
+) -> Result<Left, AllocError> {
     let input = input.as_bytes().to_vec(alloc)?;
     let mut input = MemSource::new(input, 1, Vec::new(alloc));
     call_with(alloc, line, source, &mut input, faults)
 }
 
 /// A run of a program with this body.
-pub fn run(alloc: Global, body: &str, input: &str) -> Result<Left, Memory> {
+pub fn run(alloc: Global, body: &str, input: &str) -> Result<Left, AllocError> {
     run_with(alloc, "run a", body, input)
 }
 
 /// Compares such runs with what they answer. A row has the body, what is printed, what is told and the input.
-pub fn expect(rt: &impl Abort, alloc: Global, status: Status, table: &str) -> Result<(), Memory> {
+pub fn expect(
+    rt: &impl Abort,
+    alloc: Global,
+    status: Status,
+    table: &str,
+) -> Result<(), AllocError> {
     for row in table.split(BETWEEN) {
         let [body, out, err, input, _] = fields(row);
         let left = run(alloc, body, text(input))?;

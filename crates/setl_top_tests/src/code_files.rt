@@ -3,9 +3,9 @@
 use crate::calls::{Faults, Left, NO_FAULTS, answer, call, call_on, call_with, expect_calls};
 use crate::faults::{expect_faults, expect_faults_of};
 use crate::rows::{BETWEEN, fields, numbers, text};
-use setl_io::{MemSource, Memory, Source, Took};
+use setl_io::{MemSource, Source, Took};
 use setl_top::Status;
-use std::alloc::Global;
+use std::alloc::{AllocError, Global};
 use std::process::Abort;
 use std::test::Fail;
 
@@ -46,13 +46,13 @@ fn code_files_are_built(rt: HostRuntime) -> Result<(), Fail> {
 }
 
 /// What a run of a program with these options answers.
-fn run_of(alloc: Global, options: &str, source: &str, input: &str) -> Result<Left, Memory> {
+fn run_of(alloc: Global, options: &str, source: &str, input: &str) -> Result<Left, AllocError> {
     let line = format!(in alloc; "run {options} a")?;
     call_on(alloc, line.as_str(), source.as_bytes(), input, NO_FAULTS)
 }
 
 /// What a run of its code file with these options answers.
-fn exec_of(alloc: Global, options: &str, source: &str, input: &str) -> Result<Left, Memory> {
+fn exec_of(alloc: Global, options: &str, source: &str, input: &str) -> Result<Left, AllocError> {
     let built = answer(alloc, "build a", source)?;
     let line = format!(in alloc; "exec {options} a")?;
     call_on(alloc, line.as_str(), built.out(), input, NO_FAULTS)
@@ -60,7 +60,12 @@ fn exec_of(alloc: Global, options: &str, source: &str, input: &str) -> Result<Le
 
 /// Compares runs of programs, and of what is built of them, with what both answer. A row has the options, the source, what
 /// is printed, what is told and the input.
-fn expect_alike(rt: &impl Abort, alloc: Global, status: Status, table: &str) -> Result<(), Memory> {
+fn expect_alike(
+    rt: &impl Abort,
+    alloc: Global,
+    status: Status,
+    table: &str,
+) -> Result<(), AllocError> {
     for row in table.split(BETWEEN) {
         let [options, source, out, err, input] = fields(row);
         let of_source = run_of(alloc, text(options), text(source), text(input))?;
@@ -418,7 +423,7 @@ line 1: nothing to go back to
 ";
 
 /// What a run of `COUNTED` answers in which the byte at this place is another one.
-fn changed(alloc: Global, place: usize, byte: u8) -> Result<Left, Memory> {
+fn changed(alloc: Global, place: usize, byte: u8) -> Result<Left, AllocError> {
     let mut bytes = COUNTED.to_vec(alloc)?;
     if let Some(at) = bytes.get_mut(place) {
         *at = byte;

@@ -2,9 +2,8 @@
 
 use crate::calls::{Left, expect_calls, run_with};
 use crate::rows::{BETWEEN, fields, text};
-use setl_io::Memory;
 use setl_top::Status;
-use std::alloc::Global;
+use std::alloc::{AllocError, Global};
 use std::test::Fail;
 
 /// A set that is kept in three ways, a map, and a job on a graph, and what they print.
@@ -322,7 +321,7 @@ fn stops_unless_unbased(
     out: &str,
     line: &str,
     unbased: &str,
-) -> Result<bool, Memory> {
+) -> Result<bool, AllocError> {
     let based = run_with(alloc, "run a", body, input)?;
     let plain = run_with(alloc, "run --unbased a", body, input)?;
     Ok(based.is(Status::Stopped, out, line) && plain.is(Status::Done, unbased, ""))
@@ -456,7 +455,7 @@ fn turns_are_bounded_by_the_words(rt: HostRuntime) -> Result<(), Fail> {
 }
 
 /// What a run with so many turns answers.
-fn bounded(alloc: Global, turns: u64, body: &str) -> Result<Left, Memory> {
+fn bounded(alloc: Global, turns: u64, body: &str) -> Result<Left, AllocError> {
     let line = format!(in alloc; "run --turns {turns} a")?;
     run_with(alloc, line.as_str(), body, "")
 }

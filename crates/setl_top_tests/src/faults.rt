@@ -2,8 +2,8 @@
 
 use crate::calls::{Faults, Left, call, call_with};
 use crate::rows::{BETWEEN, cut, fields, numbers, text};
-use setl_io::{MemSource, Memory};
-use std::alloc::Global;
+use setl_io::MemSource;
+use std::alloc::{AllocError, Global};
 use std::process::Abort;
 use std::test::Fail;
 
@@ -26,7 +26,7 @@ pub fn expect_faults(
     alloc: Global,
     source: &str,
     table: &str,
-) -> Result<(), Memory> {
+) -> Result<(), AllocError> {
     expect_faults_of(rt, alloc, source.as_bytes(), table)
 }
 
@@ -36,7 +36,7 @@ pub fn expect_faults_of(
     alloc: Global,
     file: &[u8],
     table: &str,
-) -> Result<(), Memory> {
+) -> Result<(), AllocError> {
     for row in table.split(BETWEEN) {
         let [head, words, out, err, own] = fields(row);
         let [load, write, most, tell, status] = numbers(head);
@@ -327,7 +327,7 @@ fn line_of(status: u64) -> &'static str {
 }
 
 /// A run over an input and an output of which these calls fail.
-fn streamed(alloc: Global, read: u64, faults: Faults) -> Result<Left, Memory> {
+fn streamed(alloc: Global, read: u64, faults: Faults) -> Result<Left, AllocError> {
     let fails = vec![in alloc; read]?;
     let mut input = MemSource::new(b"1 22".to_vec(alloc)?, 1, fails);
     call_with(alloc, "run a", READING.as_bytes(), &mut input, faults)

@@ -1,9 +1,8 @@
 //! Deep values, deep calls and long searches.
 
 use crate::calls::{expect, run};
-use setl_io::Memory;
 use setl_top::Status;
-use std::alloc::Global;
+use std::alloc::{AllocError, Global};
 use std::test::Fail;
 
 /// Bodies of programs with 10,000 calls inside one another, 1,000 `ok` in a row, or values of depth 500, and what they
@@ -36,7 +35,7 @@ fn calls_searches_and_values_are_deep(rt: HostRuntime) -> Result<(), Fail> {
 const DEEP: &str = "v := {}; (for i in [1..499]) v := {v}; end for;\nread(w); print(v = w, v);";
 
 /// The text of an empty set inside sets, so that it is so deep.
-fn nested(alloc: Global, depth: usize) -> Result<String, Memory> {
+fn nested(alloc: Global, depth: usize) -> Result<String, AllocError> {
     let mut text = String::new(alloc);
     for bracket in ["{", "}"] {
         text.push_str(&bracket.repeat(alloc, depth)?)?;
@@ -45,7 +44,7 @@ fn nested(alloc: Global, depth: usize) -> Result<String, Memory> {
 }
 
 /// Whether the run prints a value of depth 500.
-fn prints_500(alloc: Global) -> Result<bool, Memory> {
+fn prints_500(alloc: Global) -> Result<bool, AllocError> {
     let high = nested(alloc, 500)?;
     let left = run(alloc, DEEP, &high)?;
     let out = format!(in alloc; "true {high}\n")?;
@@ -53,7 +52,7 @@ fn prints_500(alloc: Global) -> Result<bool, Memory> {
 }
 
 /// Whether it stops where it reads a value of depth 501.
-fn stops_at_501(alloc: Global) -> Result<bool, Memory> {
+fn stops_at_501(alloc: Global) -> Result<bool, AllocError> {
     let left = run(alloc, DEEP, &nested(alloc, 501)?)?;
     Ok(left.is(Status::Stopped, "", "line 2: deep\n"))
 }

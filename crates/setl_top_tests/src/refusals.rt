@@ -2,9 +2,8 @@
 
 use crate::calls::{Left, NO_FAULTS, answer, call, expect_calls};
 use crate::rows::{BETWEEN, fields, text};
-use setl_io::Memory;
 use setl_top::Status;
-use std::alloc::Global;
+use std::alloc::{AllocError, Global};
 use std::test::Fail;
 
 /// Words, sources that are refused, nothing printed, and the first reason that is told.
@@ -384,7 +383,7 @@ s: mmap{int} set(int); end repr; s := {}; end program;
 ";
 
 /// Whether a check of the first source breaks this rule on line 2, and a check of the second is done.
-fn tells_rule(alloc: Global, rule: &str, broken: &str, kept: &str) -> Result<bool, Memory> {
+fn tells_rule(alloc: Global, rule: &str, broken: &str, kept: &str) -> Result<bool, AllocError> {
     let line = format!(in alloc; "line 2: rule {rule}\n")?;
     let broken = answer(alloc, "check a", broken)?;
     let kept = answer(alloc, "check a", kept)?;
@@ -447,7 +446,7 @@ not of the plain form
 ";
 
 /// Whether the call with these words is told in other words.
-fn is_told_otherwise(alloc: Global, line: &str) -> Result<bool, Memory> {
+fn is_told_otherwise(alloc: Global, line: &str) -> Result<bool, AllocError> {
     let left = answer(alloc, line, "program p; end program;")?;
     Ok(left.is_told_in_other_words(Status::Words))
 }
@@ -468,7 +467,7 @@ fn other_words_are_not_of_the_plain_form(rt: HostRuntime) -> Result<(), Fail> {
 }
 
 /// What a run of a program answers that prints 1 inside so many parentheses.
-fn parentheses(alloc: Global, count: usize) -> Result<Left, Memory> {
+fn parentheses(alloc: Global, count: usize) -> Result<Left, AllocError> {
     let opened = "(".repeat(alloc, count)?;
     let closed = ")".repeat(alloc, count)?;
     let source = format!(in alloc; "program p; print({opened}1{closed}); end program;")?;
@@ -476,7 +475,7 @@ fn parentheses(alloc: Global, count: usize) -> Result<Left, Memory> {
 }
 
 /// What a run of a source of so many blanks answers.
-fn blanks(alloc: Global, count: usize) -> Result<Left, Memory> {
+fn blanks(alloc: Global, count: usize) -> Result<Left, AllocError> {
     let source = vec![in alloc; b' '; count]?;
     call(alloc, "run a", &source, NO_FAULTS)
 }

@@ -2,9 +2,9 @@
 
 use crate::calls::{Faults, Left, NO_FAULTS, call_with, run_with};
 use crate::rows::{BETWEEN, fields, text};
-use setl_io::{MemSource, Memory};
+use setl_io::MemSource;
 use setl_top::Status;
-use std::alloc::Global;
+use std::alloc::{AllocError, Global};
 use std::process::Abort;
 use std::test::Fail;
 
@@ -15,7 +15,7 @@ fn expect_sessions(
     alloc: Global,
     status: Status,
     table: &str,
-) -> Result<(), Memory> {
+) -> Result<(), AllocError> {
     for row in table.split(BETWEEN) {
         let [body, out, err, script, _] = fields(row);
         let left = run_with(alloc, "debug a", body, script)?;
@@ -164,7 +164,7 @@ fn a_script_is_followed_over_the_states_of_a_run(rt: HostRuntime) -> Result<(), 
 const ONE: &[u8] = b"program p; x := 1; print(x); end program;";
 
 /// A session over `ONE` whose script is `out`, `show` and `out`, of which this read fails, 0 for none.
-fn session_with(alloc: Global, read: u64, faults: Faults) -> Result<Left, Memory> {
+fn session_with(alloc: Global, read: u64, faults: Faults) -> Result<Left, AllocError> {
     let script = text("out\nshow\nout\n").as_bytes().to_vec(alloc)?;
     let mut script = MemSource::new(script, 1, vec![in alloc; read]?);
     call_with(alloc, "debug --unbased a", ONE, &mut script, faults)

@@ -2,8 +2,8 @@
 
 use crate::calls::{Faults, Left, NO_FAULTS, call_on, call_with};
 use crate::rows::{BETWEEN, fields, text};
-use setl_io::{MemSource, Memory};
-use std::alloc::Global;
+use setl_io::MemSource;
+use std::alloc::{AllocError, Global};
 use std::process::Abort;
 use std::test::Fail;
 
@@ -71,7 +71,7 @@ fn front(text: &str, lines: u64) -> &str {
 
 /// What a row's run answers over an output of which the call of this number fails, 0 for none, and that takes so many bytes
 /// a call.
-fn written(alloc: Global, row: &str, write: u64, most: usize) -> Result<Left, Memory> {
+fn written(alloc: Global, row: &str, write: u64, most: usize) -> Result<Left, AllocError> {
     let [source, _, input, ..] = fields(row);
     let faults = Faults {
         load: 0,
@@ -84,7 +84,7 @@ fn written(alloc: Global, row: &str, write: u64, most: usize) -> Result<Left, Me
 
 /// Runs a row over outputs of which each call fails in turn, and over one that takes a byte a call and one that takes none.
 /// What stands in them are the lines before.
-fn sweep(rt: &impl Abort, alloc: Global, row: &str) -> Result<(), Memory> {
+fn sweep(rt: &impl Abort, alloc: Global, row: &str) -> Result<(), AllocError> {
     let [_, out, ..] = fields(row);
     for before in 0..out.lines().count() as u64 {
         let left = written(alloc, row, before + 1, 99)?;
@@ -111,7 +111,7 @@ fn each_call_of_the_output_fails_in_turn(rt: HostRuntime) -> Result<(), Fail> {
 }
 
 /// What the program that reads answers over an input of which the call of this number fails.
-fn read(alloc: Global, number: u64) -> Result<Left, Memory> {
+fn read(alloc: Global, number: u64) -> Result<Left, AllocError> {
     let [source, _, input, ..] = fields(READING);
     let bytes = text(input).as_bytes().to_vec(alloc)?;
     let mut input = MemSource::new(bytes, 1, vec![in alloc; number]?);

@@ -2,7 +2,7 @@
 
 use crate::calls::{Faults, NO_FAULTS, answer, call_on, call_watched, expect_calls};
 use setl_top::Status;
-use setl_watch::{Cover, Event, Memory, Trace, Wants, Watcher};
+use setl_watch::{Cover, Event, Trace, Wants, Watcher};
 use std::alloc::{AllocError, Global};
 use std::test::Fail;
 
@@ -201,7 +201,7 @@ fn reports_stand_before_the_line_of_a_run_without_turns(rt: HostRuntime) -> Resu
 }
 
 /// The report of a trace of a program that counts up to a number.
-fn counted(alloc: Global, events: u64) -> Result<String, Memory> {
+fn counted(alloc: Global, events: u64) -> Result<String, AllocError> {
     let mut report = String::from_str(alloc, "store 2 n 0\n")?;
     for n in 1..events {
         report.push_str(format!(in alloc; "store 4 n {n}\n")?.as_str())?;
@@ -247,7 +247,7 @@ impl Watcher for AtOnce {
         Wants::Enough
     }
 
-    fn report(&self, into: &mut Vec<u8>) -> Result<(), Memory> {
+    fn report(&self, into: &mut Vec<u8>) -> Result<(), AllocError> {
         match self.told.checked_add(b'0') {
             Some(digit) => into.extend_from_slice(&[digit, b'\n']),
             None => Err(AllocError),

@@ -21,5 +21,4 @@ mod watching;
 pub use laws::{faulty_words, one_command, plain_words};
 pub use reading::{Command, FileKind, read_words};
 pub use setl_top_options::{Asked, Options};
-pub use std::alloc::AllocError as Memory;
 pub use told::fault_text;

@@ -9,8 +9,7 @@ ghost use Rattle.std.specs.Prelude.{◌≡◌, ◌≤◌, ◌-◌, [], ◌∷◌
 ghost use Rattle.setl_trail.specs.Trail.{entry, mark, latest, without_latest, mark_count, forgotten};
 ghost use Rattle.setl_trail.specs.Merged.{is_at_mark};
 
-pub use std::alloc::AllocError as Memory;
-use std::alloc::Global;
+use std::alloc::{AllocError, Global};
 use std::marker::Model;
 
 /// What serves an older mark only by a test, once the latest mark is forgotten.
@@ -52,7 +51,7 @@ impl<E> Trail<E> {
     /// An empty trail.
     ///
     /// The error is want of memory.
-    pub fn new(alloc: Global) -> Result<Trail<E>, Memory>
+    pub fn new(alloc: Global) -> Result<Trail<E>, AllocError>
         ensures { IfOk result (λ trail. trail.items ≡ []) }
     {
         let marks = Vec::with_capacity(alloc, 1)?;
@@ -63,7 +62,7 @@ impl<E> Trail<E> {
     /// Reserves memory, so that at least `n` entries can be noted.
     ///
     /// The error is want of memory, and then the trail is as before.
-    pub fn reserve(&mut self, n: usize) -> Result<(), Memory>
+    pub fn reserve(&mut self, n: usize) -> Result<(), AllocError>
         ensures same { self.new.items ≡ self.old.items }
         ensures room { OnOk result (n ≤ self.new.spare) }
         ensures more { self.old.spare ≤ self.new.spare }
@@ -83,7 +82,7 @@ impl<E> Trail<E> {
     /// Puts a mark on top. Memory that was reserved for entries stays so.
     ///
     /// The error is want of memory, and then the trail is as before.
-    pub fn mark(&mut self) -> Result<(), Memory>
+    pub fn mark(&mut self) -> Result<(), AllocError>
         ensures marked { OnOk result (self.new ≡ record self.old { items = mark ∷ self.old.items }) }
         ensures refused { OnErr result (self.new ≡ self.old) }
     {

@@ -21,7 +21,6 @@ pub use expr::{
 pub use items::Items;
 pub use kind::Kind;
 pub use mode::{Attribute, Core, ReprLine, WrittenMode};
-pub use std::alloc::AllocError as Memory;
 pub use stmt::{Branch, FromEnd, Place, Stmt, StmtKind};
 pub use text::Text;
 pub use tree::{Declared, Param, Passing, Proc, Tree};

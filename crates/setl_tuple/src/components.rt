@@ -7,8 +7,8 @@ ghost use Rattle.setl_tuple.specs.Tuples.{index_of, get_of, put_of, with_of};
 
 use crate::TupleFault;
 use crate::lists::push_om;
-use setl_value::{Memory, TupleBody, Value};
-use std::alloc::Global;
+use setl_value::{TupleBody, Value};
+use std::alloc::{AllocError, Global};
 
 /// How deep a value may be.
 const MOST_DEPTH: u32 = 500;
@@ -76,7 +76,7 @@ fn put_past_end(alloc: Global, t: &mut TupleBody, index: u128, v: Value) -> Resu
 }
 
 /// `om` `n` times, then `v`.
-fn behind_gap(alloc: Global, n: usize, v: Value) -> Result<Vec<Option<Value>>, Memory>
+fn behind_gap(alloc: Global, n: usize, v: Value) -> Result<Vec<Option<Value>>, AllocError>
     ensures { IfOk result (λ parts. map part parts.items ≡ replicate n None ++ Some (datum v) ∷ []) }
 {
     let mut parts = Vec::with_capacity(alloc, n.saturating_add(1))?;

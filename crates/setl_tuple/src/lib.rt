@@ -6,7 +6,7 @@ mod lists;
 
 pub use components::{get, put, with};
 pub use lists::{cat, repeat, slice};
-use setl_value::Memory;
+use std::alloc::AllocError;
 
 /// Why an operator gave no tuple.
 #[derive(Clone, Copy, Debug, PartialEq, Eq)]
@@ -19,13 +19,13 @@ pub enum TupleFault {
     NoMemory,
 }
 
-impl From<Memory> for TupleFault {
+impl From<AllocError> for TupleFault {
     ghost use Rattle.std.specs.Prelude.{◌≡◌};
     ghost use Rattle.setl_tuple.specs.declared.TupleFault.TheVariants.{NoMemory};
 
     ghost from_gives = { λ _ e. e ≡ NoMemory };
 
-    fn from(_e: Memory) -> TupleFault {
+    fn from(_e: AllocError) -> TupleFault {
         TupleFault::NoMemory
     }
 }

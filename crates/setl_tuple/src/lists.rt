@@ -5,11 +5,11 @@ ghost use Rattle.setl_value.specs.Copies.{copies};
 ghost use Rattle.setl_tuple.specs.Tuples.{repeat_of, slice_of};
 
 use crate::TupleFault;
-use setl_value::{Memory, TupleBody, Value};
-use std::alloc::Global;
+use setl_value::{TupleBody, Value};
+use std::alloc::{AllocError, Global};
 
 /// The components of `a`, then those of `b`.
-pub fn cat(alloc: Global, a: &TupleBody, b: &TupleBody) -> Result<TupleBody, Memory>
+pub fn cat(alloc: Global, a: &TupleBody, b: &TupleBody) -> Result<TupleBody, AllocError>
     ensures joined { IfOk result (λ t. t ≡ a.now ++ b.now) }
 {
     a.learn();
@@ -37,17 +37,17 @@ pub fn repeat(alloc: Global, a: &TupleBody, n: i128) -> Result<TupleBody, TupleF
 }
 
 /// The components of `n` copies of `a`.
-fn copied(alloc: Global, a: &TupleBody, n: u128) -> Result<Vec<Option<Value>>, Memory>
+fn copied(alloc: Global, a: &TupleBody, n: u128) -> Result<Vec<Option<Value>>, AllocError>
     ensures { IfOk result (λ parts. map part parts.items ≡ copies n a.now) }
 {
     if a.len() == 0 {
         return Ok(Vec::new(alloc));
     }
     let Ok(n) = usize::try_from(n) else {
-        return Err(Memory);
+        return Err(AllocError);
     };
     let Some(len) = n.checked_mul(a.len()) else {
-        return Err(Memory);
+        return Err(AllocError);
     };
     let mut parts = Vec::with_capacity(alloc, len)?;
     for _ in 0..n {
@@ -76,7 +76,7 @@ pub fn slice(alloc: Global, t: &TupleBody, i: i128, j: i128) -> Result<TupleBody
 }
 
 /// Pushes the components of `t`.
-fn push_all(parts: &mut Vec<Option<Value>>, t: &TupleBody) -> Result<(), Memory>
+fn push_all(parts: &mut Vec<Option<Value>>, t: &TupleBody) -> Result<(), AllocError>
     ensures { OnOk result (map part parts.new.items ≡ map part parts.old.items ++ t.now) }
 {
     push_part(parts, t, 0, t.len())
@@ -88,7 +88,7 @@ fn push_part(
     t: &TupleBody,
     from: usize,
     to: usize,
-) -> Result<(), Memory>
+) -> Result<(), AllocError>
     requires ordered { from ≤ to }
     requires inside { to ≤ length t.now }
     ensures { OnOk result (map part parts.new.items ≡ map part parts.old.items ++ slice_range t.now from to) }
@@ -100,7 +100,7 @@ fn push_part(
 }
 
 /// A copy of the component at index `i`.
-fn component(t: &TupleBody, i: usize) -> Result<Option<Value>, Memory>
+fn component(t: &TupleBody, i: usize) -> Result<Option<Value>, AllocError>
     requires { i < length t.now }
     ensures { IfOk result (λ p. slice_get t.now i ≡ Some (part p)) }
 {
@@ -111,7 +111,7 @@ fn component(t: &TupleBody, i: usize) -> Result<Option<Value>, Memory>
 }
 
 /// Pushes `om` `n` times.
-pub(crate) fn push_om(parts: &mut Vec<Option<Value>>, n: usize) -> Result<(), Memory>
+pub(crate) fn push_om(parts: &mut Vec<Option<Value>>, n: usize) -> Result<(), AllocError>
     ensures { OnOk result (map part parts.new.items ≡ map part parts.old.items ++ replicate n None) }
 {
     for _ in 0..n {

@@ -19,7 +19,7 @@ use crate::counts::{depth_of, depth_without, learn_members, leaving, other, othe
 use crate::places::{Cursor, START, Sought, bound_in, page_in};
 use crate::second::change_second;
 use crate::sets::MemberIter;
-use crate::{Memory, Pages, Value};
+use crate::{Pages, Value};
 use setl_value_pages::{
     Page, cut_page, item_at, items_at, items_from, paged, pages_from, put_page, replace_pages,
     size_at,
@@ -40,7 +40,7 @@ impl Pages {
     }
 
     /// Pages of these members.
-    pub(crate) fn from_rising(alloc: Global, items: Vec<Value>) -> Result<Pages, Memory>
+    pub(crate) fn from_rising(alloc: Global, items: Vec<Value>) -> Result<Pages, AllocError>
         requires rising { IsRising (map datum items.items) }
         requires shallow { depth (set_of (map datum items.items)) ≤ 500 }
         ensures made { IfOk result (λ s. Members s ≡ map datum items.items) }
@@ -146,7 +146,7 @@ impl Pages {
     }
 
     /// Puts `v` before the member at a place.
-    pub(crate) fn put_in(&mut self, alloc: Global, c: Cursor, v: Value) -> Result<(), Memory>
+    pub(crate) fn put_in(&mut self, alloc: Global, c: Cursor, v: Value) -> Result<(), AllocError>
         requires place { HasPlace self.old c }
         requires rising { IsRising (insert (Members self.old) (rank self.old c) (datum v)) }
         requires shallow { depth (set_of (insert (Members self.old) (rank self.old c) (datum v))) ≤ 500 }
@@ -166,7 +166,7 @@ impl Pages {
     }
 
     /// Takes the member at a place out.
-    pub(crate) fn cut_in(&mut self, c: Cursor) -> Result<Value, Memory>
+    pub(crate) fn cut_in(&mut self, c: Cursor) -> Result<Value, AllocError>
         requires place { HasPlace self.old c }
         requires there { rank self.old c < length (Members self.old) }
         ensures cut { IfOk result (λ v. (slice_get (Members self.old) (rank self.old c) ≡ Some (datum v)) × (Members self.new ≡ remove (Members self.old) (rank self.old c))) }
@@ -185,7 +185,7 @@ impl Pages {
         &mut self,
         c: Cursor,
         change: F,
-    ) -> Result<Option<R>, Memory>
+    ) -> Result<Option<R>, AllocError>
         requires place { HasPlace self.old c }
         requires there { rank self.old c < length (Members self.old) }
         requires callable { F.IsAlwaysCallable change }
@@ -214,7 +214,7 @@ impl Pages {
         c: Cursor,
         count: usize,
         by: Vec<Value>,
-    ) -> Result<(), Memory>
+    ) -> Result<(), AllocError>
         requires place { HasPlace self.old c }
         requires there { rank self.old c + count ≤ length (Members self.old) }
         requires rising { IsRising (take (rank self.old c) (Members self.old) ++ map datum by.items ++ drop (rank self.old c + count) (Members self.old)) }
@@ -248,7 +248,7 @@ impl Pages {
 }
 
 // The sum of two numbers of members. Where it doesn't fit, no set can have so many.
-fn sum_of(a: usize, b: usize) -> Result<usize, Memory>
+fn sum_of(a: usize, b: usize) -> Result<usize, AllocError>
     ensures { IfOk result (λ n. (n ≡ a + b) × (n < 2 ^ 64)) }
 {
     match a.checked_add(b) {

@@ -28,7 +28,7 @@ mod tuples;
 
 pub use places::Cursor;
 pub use sets::MemberIter;
-pub use std::alloc::AllocError as Memory;
+use std::alloc::AllocError;
 use std::marker::Model;
 use std::rc::Rc;
 pub use string::Text;
@@ -155,7 +155,7 @@ impl Value {
     }
 
     /// The same value, which shares its body. Where memory is refused, nothing was made.
-    pub fn copy(&self) -> Result<Value, Memory>
+    pub fn copy(&self) -> Result<Value, AllocError>
         ensures same { IfOk result (λ v. v ≡ self.now) }
     {
         match self {
@@ -192,7 +192,7 @@ impl Value {
 impl Clone for Pages {
     ghost is_clone = { λ v copy. copy ≡ v };
 
-    fn clone(&self) -> Result<Pages, Memory> {
+    fn clone(&self) -> Result<Pages, AllocError> {
         Ok(Pages {
             list: self.list.clone()?,
             count: self.count,
@@ -206,7 +206,7 @@ impl Clone for Pages {
 impl Clone for Value {
     ghost is_clone = { λ v copy. copy ≡ v };
 
-    fn clone(&self) -> Result<Value, Memory> {
+    fn clone(&self) -> Result<Value, AllocError> {
         self.copy()
     }
 }

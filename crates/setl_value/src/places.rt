@@ -14,9 +14,9 @@ ghost use Rattle.setl_value.specs.Order.{datum_cmp, IsRising};
 ghost use Rattle.setl_value.specs.code.Places.{HasPlace, rank, IsPlace, IsBound, IsBetween, point};
 ghost use Rattle.setl_value.specs.code.Sought.{sought};
 
-use crate::{MemberIter, Memory, SetBody, Value};
+use crate::{MemberIter, SetBody, Value};
 use setl_value_pages::{Page, first_at};
-use std::alloc::Global;
+use std::alloc::{AllocError, Global};
 use std::rc::Rc;
 
 /// A place among the members of a set: at one of them, or after the last. It is good for the set that gave it, until
@@ -87,7 +87,7 @@ impl SetBody {
 
     /// Puts `v` before the member at a place. The list stays rising and the depth at most 500. It lies on one page then,
     /// and a page of 64 members becomes two of 32 and 33. Where memory is refused, the set is as before.
-    pub fn put_in(&mut self, alloc: Global, c: Cursor, v: Value) -> Result<(), Memory>
+    pub fn put_in(&mut self, alloc: Global, c: Cursor, v: Value) -> Result<(), AllocError>
         requires place { HasPlace self.old c }
         requires rising { IsRising (insert (Members self.old) (rank self.old c) (datum v)) }
         requires shallow { depth (set_of (insert (Members self.old) (rank self.old c) (datum v))) ≤ 500 }
@@ -100,7 +100,7 @@ impl SetBody {
     }
 
     /// Takes the member at a place out. Where memory is refused, the set is as before.
-    pub fn cut_in(&mut self, c: Cursor) -> Result<Value, Memory>
+    pub fn cut_in(&mut self, c: Cursor) -> Result<Value, AllocError>
         requires place { HasPlace self.old c }
         requires there { rank self.old c < length (Members self.old) }
         ensures cut { IfOk result (λ v. (slice_get (Members self.old) (rank self.old c) ≡ Some (datum v)) × (Members self.new ≡ remove (Members self.old) (rank self.old c))) }
@@ -112,7 +112,7 @@ impl SetBody {
 
     /// Puts members in the place of the `count` ones from a place on. The list stays rising and the depth at most 500.
     /// Where memory is refused, the set is as before. It looks at no other members, unless a deepest one goes.
-    pub fn replace_in(&mut self, c: Cursor, count: usize, by: Vec<Value>) -> Result<(), Memory>
+    pub fn replace_in(&mut self, c: Cursor, count: usize, by: Vec<Value>) -> Result<(), AllocError>
         requires place { HasPlace self.old c }
         requires there { rank self.old c + count ≤ length (Members self.old) }
         requires rising { IsRising (take (rank self.old c) (Members self.old) ++ map datum by.items ++ drop (rank self.old c + count) (Members self.old)) }

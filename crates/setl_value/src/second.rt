@@ -8,8 +8,9 @@ ghost use Rattle.setl_value.specs.Datum.{Datum, tuple_of};
 ghost use Rattle.setl_value.specs.Pairs.{pair_parts};
 
 use crate::counts::is_pair;
-use crate::{Memory, TupleBody, Value};
+use crate::{TupleBody, Value};
 use setl_value_pages::Page;
+use std::alloc::AllocError;
 use std::rc::Rc;
 
 /// Lets `change` change the second part of the i-th member of the k-th page where it stands, to one that is at least as
@@ -20,7 +21,7 @@ pub(crate) fn change_second<R, F: FnOnce(&mut Value) -> R>(
     k: usize,
     i: usize,
     change: F,
-) -> Result<Option<R>, Memory>
+) -> Result<Option<R>, AllocError>
     requires there { k < length list.old.items }
     requires member { i < length (page_at (map page list.old.items) k) }
     requires callable { F.IsAlwaysCallable change }
@@ -38,7 +39,7 @@ fn change_member<R, F: FnOnce(&mut Value) -> R>(
     shared: &mut Page<Value>,
     i: usize,
     change: F,
-) -> Result<Option<R>, Memory>
+) -> Result<Option<R>, AllocError>
     requires member { i < length shared.old.value.items }
     requires callable { F.IsAlwaysCallable change }
     requires grows { (v : Value) → slice_get shared.old.value.items i ≡ Some v → PairGrows F.FnOnce change (datum v) }
@@ -55,7 +56,7 @@ fn change_item<R, F: FnOnce(&mut Value) -> R>(
     members: &mut Vec<Value>,
     i: usize,
     change: F,
-) -> Result<Option<R>, Memory>
+) -> Result<Option<R>, AllocError>
     requires member { i < length members.old.items }
     requires callable { F.IsAlwaysCallable change }
     requires grows { (v : Value) → slice_get members.old.items i ≡ Some v → PairGrows F.FnOnce change (datum v) }
@@ -70,7 +71,7 @@ fn change_item<R, F: FnOnce(&mut Value) -> R>(
 fn change_pair<R, F: FnOnce(&mut Value) -> R>(
     member: &mut Value,
     change: F,
-) -> Result<Option<R>, Memory>
+) -> Result<Option<R>, AllocError>
     requires callable { F.IsAlwaysCallable change }
     requires grows { PairGrows F.FnOnce change (datum member.old) }
     ensures changed { IfOk result (λ o. IfSome o (λ r. ChangesPair F.FnOnce change (datum member.old) r (datum member.new))) }
@@ -87,7 +88,7 @@ fn change_pair<R, F: FnOnce(&mut Value) -> R>(
 fn change_second_part<R, F: FnOnce(&mut Value) -> R>(
     t: &mut TupleBody,
     change: F,
-) -> Result<Option<R>, Memory>
+) -> Result<Option<R>, AllocError>
     requires callable { F.IsAlwaysCallable change }
     requires grows { PairGrows F.FnOnce change (tuple_of t.old) }
     ensures changed { IfOk result (λ o. IfSome o (λ r. ChangesPair F.FnOnce change (tuple_of t.old) r (tuple_of t.new))) }

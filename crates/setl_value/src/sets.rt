@@ -16,14 +16,14 @@ ghost use Rattle.setl_value.specs.code.Places.{HasPlace, rank};
 ghost use Rattle.setl_value.specs.WellFormed.{IsValue, IsSetList};
 
 use crate::places::{Cursor, START};
-use crate::{Memory, Pages, SetBody, Value};
-use std::alloc::Global;
+use crate::{Pages, SetBody, Value};
+use std::alloc::{AllocError, Global};
 use std::marker::Model;
 use std::rc::Rc;
 
 impl SetBody {
     /// The empty set.
-    pub fn new(alloc: Global) -> Result<SetBody, Memory>
+    pub fn new(alloc: Global) -> Result<SetBody, AllocError>
         ensures empty { IfOk result (λ s. Members s ≡ []) }
     {
         let pages = Pages::new(alloc);
@@ -33,7 +33,7 @@ impl SetBody {
     }
 
     /// The set of these members, which stand in strictly rising order.
-    pub fn from_rising(alloc: Global, items: Vec<Value>) -> Result<SetBody, Memory>
+    pub fn from_rising(alloc: Global, items: Vec<Value>) -> Result<SetBody, AllocError>
         requires rising { IsRising (map datum items.items) }
         requires shallow { depth (set_of (map datum items.items)) ≤ 500 }
         ensures made { IfOk result (λ s. Members s ≡ map datum items.items) }
@@ -77,7 +77,7 @@ impl SetBody {
     /// Puts `v` before the i-th member, or after the last where i is the length. The list stays rising and the depth
     /// at most 500. A page of 64 members on which it comes becomes two of 32 and 33. Where memory is refused, the set is
     /// as before.
-    pub fn put_at(&mut self, alloc: Global, i: usize, v: Value) -> Result<(), Memory>
+    pub fn put_at(&mut self, alloc: Global, i: usize, v: Value) -> Result<(), AllocError>
         requires inside { i ≤ length (Members self.old) }
         requires rising { IsRising (insert (Members self.old) i (datum v)) }
         requires shallow { depth (set_of (insert (Members self.old) i (datum v))) ≤ 500 }
@@ -90,7 +90,7 @@ impl SetBody {
     }
 
     /// Takes the i-th member out. Where memory is refused, the set is as before.
-    pub fn cut_at(&mut self, i: usize) -> Result<Value, Memory>
+    pub fn cut_at(&mut self, i: usize) -> Result<Value, AllocError>
         requires inside { i < length (Members self.old) }
         ensures cut { IfOk result (λ v. (slice_get (Members self.old) i ≡ Some (datum v)) × (Members self.new ≡ remove (Members self.old) i)) }
         ensures refused { OnErr result (self.new ≡ self.old) }
@@ -102,7 +102,7 @@ impl SetBody {
     /// Puts members in the place of those from the `from`-th up to before the `to`-th. The list stays rising and the
     /// depth at most 500. Where memory is refused, the set is as before. It looks at no other members, unless a deepest
     /// one goes.
-    pub fn replace(&mut self, from: usize, to: usize, by: Vec<Value>) -> Result<(), Memory>
+    pub fn replace(&mut self, from: usize, to: usize, by: Vec<Value>) -> Result<(), AllocError>
         requires inside { (from ≤ to) × (to ≤ length (Members self.old)) }
         requires rising { IsRising (take from (Members self.old) ++ map datum by.items ++ drop to (Members self.old)) }
         requires shallow { depth (set_of (take from (Members self.old) ++ map datum by.items ++ drop to (Members self.old))) ≤ 500 }
@@ -120,7 +120,7 @@ impl SetBody {
         &mut self,
         c: Cursor,
         change: F,
-    ) -> Result<Option<R>, Memory>
+    ) -> Result<Option<R>, AllocError>
         requires place { HasPlace self.old c }
         requires there { rank self.old c < length (Members self.old) }
         requires callable { F.IsAlwaysCallable change }
@@ -170,7 +170,7 @@ impl SetBody {
     }
 
     /// The same set, which shares its members.
-    pub fn copy(&self) -> Result<SetBody, Memory>
+    pub fn copy(&self) -> Result<SetBody, AllocError>
         ensures same { IfOk result (λ s. s ≡ self.now) }
     {
         Ok(SetBody {

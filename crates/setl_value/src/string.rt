@@ -4,9 +4,8 @@ ghost use Rattle.std.specs.Prelude.{◌≡◌, ◌++◌, IfOk, OnErr, OnOk};
 ghost use Rattle.std.specs.List.{All, AllByRecursion};
 ghost use Rattle.setl_value.specs.WellFormed.{IsTextByte};
 
-use crate::Memory;
 use setl_value_pages::append_in;
-use std::alloc::Global;
+use std::alloc::{AllocError, Global};
 use std::marker::Model;
 use std::rc::Rc;
 
@@ -30,7 +29,7 @@ impl Model for Text {
 
 impl Text {
     /// A string of these bytes, which it copies. Byte 10 may not be among them.
-    pub fn of(alloc: Global, bytes: &[u8]) -> Result<Text, Memory>
+    pub fn of(alloc: Global, bytes: &[u8]) -> Result<Text, AllocError>
         requires { All (λ b. (b ≡ 10) → ⊥) bytes.now }
         ensures { IfOk result (λ t. t ≡ bytes.now) }
     {
@@ -38,7 +37,7 @@ impl Text {
     }
 
     /// A string of these bytes, which it keeps as they are. Byte 10 may not be among them.
-    pub fn from_bytes(alloc: Global, bytes: Vec<u8>) -> Result<Text, Memory>
+    pub fn from_bytes(alloc: Global, bytes: Vec<u8>) -> Result<Text, AllocError>
         requires { All (λ b. (b ≡ 10) → ⊥) bytes.items }
         ensures { IfOk result (λ t. t ≡ bytes.items) }
     {
@@ -48,7 +47,7 @@ impl Text {
     }
 
     /// Puts the bytes of another string after the last one. Where memory is refused, the string is as before.
-    pub fn append(&mut self, other: &Text) -> Result<(), Memory>
+    pub fn append(&mut self, other: &Text) -> Result<(), AllocError>
         ensures joined { OnOk result (self.new ≡ self.old ++ other.now) }
         ensures refused { OnErr result (self.new ≡ self.old) }
     {
@@ -63,7 +62,7 @@ impl Text {
     }
 
     /// The same string, which shares its bytes.
-    pub fn copy(&self) -> Result<Text, Memory>
+    pub fn copy(&self) -> Result<Text, AllocError>
         ensures same { IfOk result (λ t. t ≡ self.now) }
     {
         Ok(Text {

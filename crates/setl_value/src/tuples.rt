@@ -9,14 +9,14 @@ ghost use Rattle.setl_value.specs.Datum.{Datum, depth, part_depth, tuple_of};
 ghost use Rattle.setl_value.specs.code.DatumOf.{datum, part};
 ghost use Rattle.setl_value.specs.WellFormed.{IsTupleList, PartIsWellFormed, trim, put};
 
-use crate::{Memory, TupleBody, Value};
+use crate::{TupleBody, Value};
 use setl_value_pages::{append_in, drop_front, take_first};
-use std::alloc::Global;
+use std::alloc::{AllocError, Global};
 use std::rc::Rc;
 
 impl TupleBody {
     /// The tuple of these components, without the `om` at their end. It is at most 500 deep.
-    pub fn of(alloc: Global, parts: Vec<Option<Value>>) -> Result<TupleBody, Memory>
+    pub fn of(alloc: Global, parts: Vec<Option<Value>>) -> Result<TupleBody, AllocError>
         requires shallow { depth (tuple_of (map part parts.items)) ≤ 500 }
         ensures trimmed { IfOk result (λ t. t ≡ trim (map part parts.items)) }
     {
@@ -50,7 +50,7 @@ impl TupleBody {
 
     /// Writes the i-th component, or one more where i is the length, and drops the `om` at the end. The depth stays
     /// at most 500. Where memory is refused, the tuple is as before.
-    pub fn put_at(&mut self, i: usize, v: Option<Value>) -> Result<(), Memory>
+    pub fn put_at(&mut self, i: usize, v: Option<Value>) -> Result<(), AllocError>
         requires inside { i ≤ length self.old }
         requires shallow { depth (tuple_of (put self.old i (part v))) ≤ 500 }
         ensures put { OnOk result (self.new ≡ trim (put self.old i (part v))) }
@@ -72,7 +72,7 @@ impl TupleBody {
         &mut self,
         i: usize,
         change: F,
-    ) -> Result<Option<R>, Memory>
+    ) -> Result<Option<R>, AllocError>
         requires callable { F.IsAlwaysCallable change }
         requires grows { (d : Datum) → slice_get self.old i ≡ Some (Some d) → Grows F.FnOnce change d 500 }
         ensures changed { IfOk result (λ o. IfSome o (λ r. (d e : Datum) × (slice_get self.old i ≡ Some (Some d)) × Leaves F.FnOnce change d r e × (self.new ≡ slice_set self.old i (Some e)))) }
@@ -94,7 +94,7 @@ impl TupleBody {
     }
 
     /// Puts the components of another tuple after the last one. Where memory is refused, the tuple is as before.
-    pub fn append(&mut self, other: &TupleBody) -> Result<(), Memory>
+    pub fn append(&mut self, other: &TupleBody) -> Result<(), AllocError>
         ensures joined { OnOk result (self.new ≡ self.old ++ other.now) }
         ensures refused { OnErr result (self.new ≡ self.old) }
     {
@@ -106,7 +106,7 @@ impl TupleBody {
 
     /// Takes the first component off. Where memory is refused, the tuple is as before. It is moved out of a list with no
     /// other owner, and the others stay where they are until half of the list is gone.
-    pub fn cut_front(&mut self) -> Result<Option<Value>, Memory>
+    pub fn cut_front(&mut self) -> Result<Option<Value>, AllocError>
         requires { 0 < length self.old }
         ensures cut { IfOk result (λ p. self.old ≡ part p ∷ self.new) }
         ensures refused { OnErr result (self.new ≡ self.old) }
@@ -126,7 +126,7 @@ impl TupleBody {
     }
 
     /// Takes the last component off, and then the `om` at the end. Where memory is refused, the tuple is as before.
-    pub fn cut_back(&mut self) -> Result<Option<Value>, Memory>
+    pub fn cut_back(&mut self) -> Result<Option<Value>, AllocError>
         requires { 0 < length self.old }
         ensures taken { IfOk result (λ p. slice_get self.old (length self.old - 1) ≡ Some (part p)) }
         ensures cut { OnOk result (self.new ≡ trim (remove self.old (length self.old - 1))) }
@@ -147,7 +147,7 @@ impl TupleBody {
     }
 
     /// The same tuple, which shares its components.
-    pub fn copy(&self) -> Result<TupleBody, Memory>
+    pub fn copy(&self) -> Result<TupleBody, AllocError>
         ensures same { IfOk result (λ t. t ≡ self.now) }
     {
         Ok(TupleBody {
@@ -182,7 +182,7 @@ fn settled(
     deep: u32,
     gone: u32,
     came: u32,
-) -> Result<usize, Memory>
+) -> Result<usize, AllocError>
     requires { start ≤ length parts.old.value.items }
     ensures same { IfOk result (λ s. drop s parts.new.value.items ≡ drop start parts.old.value.items) }
     ensures inside { IfOk result (λ s. s ≤ length parts.new.value.items) }
@@ -202,7 +202,7 @@ fn change_part<R, F: FnOnce(&mut Value) -> R>(
     parts: &mut Rc<Vec<Option<Value>>>,
     at: usize,
     change: F,
-) -> Result<Option<R>, Memory>
+) -> Result<Option<R>, AllocError>
     requires callable { F.IsAlwaysCallable change }
     ensures changed { IfOk result (λ o. IfSome o (λ r. (v w : Value) × (slice_get parts.old.value.items at ≡ Some (Some v)) × FnOnceReturnsAtMut F.FnOnce change v r w × (parts.new.value.items ≡ slice_set parts.old.value.items at (Some w)))) }
     ensures nothing { IfOk result (λ o. IfNone o ((slice_get parts.old.value.items at ≡ Some None) ⊎ (slice_get parts.old.value.items at ≡ None))) }
@@ -248,7 +248,7 @@ fn put_part(
     start: usize,
     i: usize,
     v: Option<Value>,
-) -> Result<(), Memory>
+) -> Result<(), AllocError>
     requires { start + i ≤ length parts.old.value.items }
     ensures put { OnOk result (map part (drop start parts.new.value.items) ≡ trim (put (map part (drop start parts.old.value.items)) i (part v))) }
     ensures inside { OnOk result (start ≤ length parts.new.value.items) }
@@ -264,7 +264,7 @@ fn put_behind(
     start: usize,
     i: usize,
     v: Option<Value>,
-) -> Result<(), Memory>
+) -> Result<(), AllocError>
     requires { start + i ≤ length list.old.items }
     ensures put { OnOk result (map part (drop start list.new.items) ≡ trim (put (map part (drop start list.old.items)) i (part v))) }
     ensures inside { OnOk result (start ≤ length list.new.items) }
@@ -277,7 +277,7 @@ fn put_behind(
 }
 
 // Takes the last component off, and then the `om` at the end, down to `start`.
-fn cut_last(parts: &mut Rc<Vec<Option<Value>>>, start: usize) -> Result<Option<Value>, Memory>
+fn cut_last(parts: &mut Rc<Vec<Option<Value>>>, start: usize) -> Result<Option<Value>, AllocError>
     requires { start < length parts.old.value.items }
     ensures taken { IfOk result (λ p. slice_get parts.old.value.items (length parts.old.value.items - 1) ≡ Some p) }
     ensures cut { OnOk result (map part (drop start parts.new.value.items) ≡ trim (map part (drop start (remove parts.old.value.items (length parts.old.value.items - 1))))) }
@@ -303,7 +303,7 @@ fn cut_behind(list: &mut Vec<Option<Value>>, start: usize) -> Option<Value>
 }
 
 #[tactic(auto, using(crate::proofs::Trim::put_set, crate::proofs::Trim::put_push))]
-fn place_part(list: &mut Vec<Option<Value>>, i: usize, v: Option<Value>) -> Result<(), Memory>
+fn place_part(list: &mut Vec<Option<Value>>, i: usize, v: Option<Value>) -> Result<(), AllocError>
     requires { i ≤ length list.old.items }
     ensures put { OnOk result (map part list.new.items ≡ put (map part list.old.items) i (part v)) }
     ensures refused { OnErr result (list.new.items ≡ list.old.items) }

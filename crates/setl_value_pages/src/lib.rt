@@ -20,4 +20,3 @@ pub use page_list::{
     replace_pages, size_at,
 };
 pub use shared::{append_in, drop_front, take_first};
-pub use std::alloc::AllocError as Memory;

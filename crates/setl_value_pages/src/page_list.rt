@@ -7,9 +7,8 @@ ghost use Rattle.std.specs.List.{AllByRecursion};
 ghost use Rattle.setl_value_pages.specs.Pages.{IsPage, IsIn, items, joined, page_at};
 ghost use Rattle.setl_value_pages.specs.Exchange.{Exchanges, AreHalves, page_sizes, put_size};
 
-use crate::Memory;
 use crate::shared::{cut_in, extend, put_in, replace_between, replace_in};
-use std::alloc::Global;
+use std::alloc::{AllocError, Global};
 use std::mem;
 use std::rc::Rc;
 
@@ -26,7 +25,7 @@ pub fn put_page<T: Clone + Drop>(
     k: usize,
     i: usize,
     v: T,
-) -> Result<(), Memory>
+) -> Result<(), AllocError>
     requires exact { (x y : T) → T.is_clone x y → y ≡ x }
     requires pages { AllByRecursion IsPage (map items list.old.items) }
     requires place { IsIn (map items list.old.items) k i }
@@ -45,7 +44,7 @@ pub fn put_page<T: Clone + Drop>(
 }
 
 // Puts a page of `v` alone at the end.
-fn add_page<T: Drop>(alloc: Global, list: &mut Vec<Page<T>>, v: T) -> Result<(), Memory>
+fn add_page<T: Drop>(alloc: Global, list: &mut Vec<Page<T>>, v: T) -> Result<(), AllocError>
     ensures added { OnOk result (map items list.new.items ≡ map items list.old.items ++ (v ∷ []) ∷ []) }
     ensures refused { OnErr result (map items list.new.items ≡ map items list.old.items) }
 {
@@ -55,7 +54,11 @@ fn add_page<T: Drop>(alloc: Global, list: &mut Vec<Page<T>>, v: T) -> Result<(),
 }
 
 // Puts a page of these items at the end.
-fn push_page<T: Drop>(alloc: Global, list: &mut Vec<Page<T>>, page: Vec<T>) -> Result<(), Memory>
+fn push_page<T: Drop>(
+    alloc: Global,
+    list: &mut Vec<Page<T>>,
+    page: Vec<T>,
+) -> Result<(), AllocError>
     ensures added { OnOk result (map items list.new.items ≡ map items list.old.items ++ page.items ∷ []) }
     ensures refused { OnErr result (map items list.new.items ≡ map items list.old.items) }
 {
@@ -69,7 +72,7 @@ fn put_in_page<T: Clone + Drop>(
     k: usize,
     i: usize,
     v: T,
-) -> Result<(), Memory>
+) -> Result<(), AllocError>
     requires exact { (x y : T) → T.is_clone x y → y ≡ x }
     requires there { k < length list.old.items }
     requires place { i ≤ length (page_at (map items list.old.items) k) }
@@ -89,7 +92,7 @@ fn put_split<T: Clone + Drop>(
     k: usize,
     i: usize,
     v: T,
-) -> Result<(), Memory>
+) -> Result<(), AllocError>
     requires exact { (x y : T) → T.is_clone x y → y ≡ x }
     requires there { k < length list.old.items }
     requires place { i ≤ length (page_at (map items list.old.items) k) }
@@ -108,7 +111,7 @@ fn halves<T: Clone + Drop>(
     full: &[T],
     i: usize,
     v: T,
-) -> Result<Vec<Page<T>>, Memory>
+) -> Result<Vec<Page<T>>, AllocError>
     requires exact { (x y : T) → T.is_clone x y → y ≡ x }
     requires place { i ≤ length full.now }
     requires full { length full.now ≡ 64 }
@@ -125,7 +128,11 @@ fn halves<T: Clone + Drop>(
 }
 
 // Two pages.
-fn two_pages<T: Drop>(alloc: Global, left: Vec<T>, right: Vec<T>) -> Result<Vec<Page<T>>, Memory>
+fn two_pages<T: Drop>(
+    alloc: Global,
+    left: Vec<T>,
+    right: Vec<T>,
+) -> Result<Vec<Page<T>>, AllocError>
     ensures { IfOk result (λ two. map items two.items ≡ left.items ∷ right.items ∷ []) }
 {
     let mut two = Vec::with_capacity(alloc, 2)?;
@@ -135,7 +142,11 @@ fn two_pages<T: Drop>(alloc: Global, left: Vec<T>, right: Vec<T>) -> Result<Vec<
 }
 
 /// Takes the i-th item of the k-th page out, and the page where it was alone.
-pub fn cut_page<T: Clone + Drop>(list: &mut Vec<Page<T>>, k: usize, i: usize) -> Result<T, Memory>
+pub fn cut_page<T: Clone + Drop>(
+    list: &mut Vec<Page<T>>,
+    k: usize,
+    i: usize,
+) -> Result<T, AllocError>
     requires exact { (x y : T) → T.is_clone x y → y ≡ x }
     requires pages { AllByRecursion IsPage (map items list.old.items) }
     requires there { k < length list.old.items }
@@ -152,7 +163,7 @@ pub fn cut_page<T: Clone + Drop>(list: &mut Vec<Page<T>>, k: usize, i: usize) ->
 }
 
 // Takes the k-th page out, which has one item.
-fn cut_alone<T: Clone + Drop>(list: &mut Vec<Page<T>>, k: usize) -> Result<T, Memory>
+fn cut_alone<T: Clone + Drop>(list: &mut Vec<Page<T>>, k: usize) -> Result<T, AllocError>
     requires exact { (x y : T) → T.is_clone x y → y ≡ x }
     requires there { k < length list.old.items }
     requires alone { length (page_at (map items list.old.items) k) ≡ 1 }
@@ -166,7 +177,11 @@ fn cut_alone<T: Clone + Drop>(list: &mut Vec<Page<T>>, k: usize) -> Result<T, Me
 }
 
 // Takes the i-th item of the k-th page out, which isn't alone.
-fn cut_from_page<T: Clone + Drop>(list: &mut Vec<Page<T>>, k: usize, i: usize) -> Result<T, Memory>
+fn cut_from_page<T: Clone + Drop>(
+    list: &mut Vec<Page<T>>,
+    k: usize,
+    i: usize,
+) -> Result<T, AllocError>
     requires exact { (x y : T) → T.is_clone x y → y ≡ x }
     requires there { k < length list.old.items }
     requires item { i < length (page_at (map items list.old.items) k) }
@@ -186,7 +201,7 @@ pub fn replace_pages<T: Clone + Drop>(
     from: (usize, usize),
     to: (usize, usize),
     by: Vec<T>,
-) -> Result<(), Memory>
+) -> Result<(), AllocError>
     requires exact { (x y : T) → T.is_clone x y → y ≡ x }
     requires pages { AllByRecursion IsPage (map items list.old.items) }
     requires from { IsIn (map items list.old.items) from.0 from.1 }
@@ -215,7 +230,11 @@ fn fits(len: usize, i: usize, j: usize, new: usize) -> bool
 }
 
 // Makes pages of `by` where there are none.
-fn fill<T: Clone + Drop>(alloc: Global, list: &mut Vec<Page<T>>, by: Vec<T>) -> Result<(), Memory>
+fn fill<T: Clone + Drop>(
+    alloc: Global,
+    list: &mut Vec<Page<T>>,
+    by: Vec<T>,
+) -> Result<(), AllocError>
     requires exact { (x y : T) → T.is_clone x y → y ≡ x }
     requires none { list.old.items ≡ [] }
     ensures filled { OnOk result (Exchanges [] (map items list.new.items) 0 0 0 0 by.items) }
@@ -232,7 +251,7 @@ fn replace_in_page<T: Clone + Drop>(
     i: usize,
     j: usize,
     by: Vec<T>,
-) -> Result<(), Memory>
+) -> Result<(), AllocError>
     requires exact { (x y : T) → T.is_clone x y → y ≡ x }
     requires there { k < length list.old.items }
     requires place { (i ≤ j) × (j ≤ length (page_at (map items list.old.items) k)) }
@@ -251,7 +270,7 @@ fn replace_whole<T: Clone + Drop>(
     from: (usize, usize),
     to: (usize, usize),
     by: Vec<T>,
-) -> Result<(), Memory>
+) -> Result<(), AllocError>
     requires exact { (x y : T) → T.is_clone x y → y ≡ x }
     requires there { (from.0 ≤ to.0) × (to.0 < length list.old.items) }
     requires from { from.1 ≤ length (page_at (map items list.old.items) from.0) }
@@ -274,7 +293,7 @@ fn rebuilt<T: Clone + Drop>(
     head: &[T],
     by: Vec<T>,
     tail: &[T],
-) -> Result<Vec<Page<T>>, Memory>
+) -> Result<Vec<Page<T>>, AllocError>
     requires exact { (x y : T) → T.is_clone x y → y ≡ x }
     ensures pages { IfOk result (λ list. AllByRecursion IsPage (map items list.items)) }
     ensures all { IfOk result (λ list. joined (map items list.items) ≡ head.now ++ by.items ++ tail.now) }
@@ -301,7 +320,7 @@ pub fn paged<T: Clone + Drop>(
     alloc: Global,
     most: usize,
     members: Vec<T>,
-) -> Result<Vec<Page<T>>, Memory>
+) -> Result<Vec<Page<T>>, AllocError>
     requires exact { (x y : T) → T.is_clone x y → y ≡ x }
     requires most { (1 ≤ most) × (most ≤ 64) }
     ensures pages { IfOk result (λ list. AllByRecursion IsPage (map items list.items)) }
@@ -327,7 +346,7 @@ fn append<T: Drop>(
     list: &mut Vec<Page<T>>,
     page: &mut Vec<T>,
     v: T,
-) -> Result<(), Memory>
+) -> Result<(), AllocError>
     requires most { (1 ≤ most) × (most ≤ 64) }
     requires pages { AllByRecursion IsPage (map items list.old.items) }
     requires page { length page.old.items ≤ most }
@@ -344,7 +363,7 @@ fn append<T: Drop>(
 }
 
 // Puts a page of these items behind the others, unless there are none.
-fn end_page<T: Drop>(alloc: Global, list: &mut Vec<Page<T>>, page: Vec<T>) -> Result<(), Memory>
+fn end_page<T: Drop>(alloc: Global, list: &mut Vec<Page<T>>, page: Vec<T>) -> Result<(), AllocError>
     requires pages { AllByRecursion IsPage (map items list.old.items) }
     requires page { length page.items ≤ 64 }
     ensures pages { OnOk result (AllByRecursion IsPage (map items list.new.items)) }

@@ -4,11 +4,11 @@
 ghost use Rattle.std.specs.Prelude.{◌≡◌, ◌<◌, ◌≤◌, ◌+◌, ◌++◌, ◌∷◌, ◌⊎◌, take, drop, length, slice_get, slice_set, IfOk, OnErr, OnOk, Some, None};
 ghost use Rattle.std.specs.List.{insert, remove};
 
-use crate::Memory;
+use std::alloc::AllocError;
 use std::rc::Rc;
 
 /// Puts `v` before the i-th item.
-pub(crate) fn put_in<T: Clone>(items: &mut Rc<Vec<T>>, i: usize, v: T) -> Result<(), Memory>
+pub(crate) fn put_in<T: Clone>(items: &mut Rc<Vec<T>>, i: usize, v: T) -> Result<(), AllocError>
     requires exact { (x y : T) → T.is_clone x y → y ≡ x }
     requires inside { i ≤ length items.old.value.items }
     ensures put { OnOk result (items.new.value.items ≡ insert items.old.value.items i v) }
@@ -20,7 +20,7 @@ pub(crate) fn put_in<T: Clone>(items: &mut Rc<Vec<T>>, i: usize, v: T) -> Result
 }
 
 /// Takes the i-th item out.
-pub(crate) fn cut_in<T: Clone>(items: &mut Rc<Vec<T>>, i: usize) -> Result<T, Memory>
+pub(crate) fn cut_in<T: Clone>(items: &mut Rc<Vec<T>>, i: usize) -> Result<T, AllocError>
     requires exact { (x y : T) → T.is_clone x y → y ≡ x }
     requires inside { i < length items.old.value.items }
     ensures taken { IfOk result (λ v. slice_get items.old.value.items i ≡ Some v) }
@@ -32,7 +32,7 @@ pub(crate) fn cut_in<T: Clone>(items: &mut Rc<Vec<T>>, i: usize) -> Result<T, Me
 }
 
 /// Puts copies of some items after the last one.
-pub fn append_in<T: Clone>(items: &mut Rc<Vec<T>>, more: &[T]) -> Result<(), Memory>
+pub fn append_in<T: Clone>(items: &mut Rc<Vec<T>>, more: &[T]) -> Result<(), AllocError>
     requires exact { (x y : T) → T.is_clone x y → y ≡ x }
     ensures appended { OnOk result (items.new.value.items ≡ items.old.value.items ++ more.now) }
     ensures refused { OnErr result (items.new.value.items ≡ items.old.value.items) }
@@ -41,7 +41,7 @@ pub fn append_in<T: Clone>(items: &mut Rc<Vec<T>>, more: &[T]) -> Result<(), Mem
     extend(list, more)
 }
 
-pub(crate) fn extend<T: Clone>(list: &mut Vec<T>, more: &[T]) -> Result<(), Memory>
+pub(crate) fn extend<T: Clone>(list: &mut Vec<T>, more: &[T]) -> Result<(), AllocError>
     requires exact { (x y : T) → T.is_clone x y → y ≡ x }
     ensures appended { OnOk result (list.new.items ≡ list.old.items ++ more.now) }
     ensures refused { OnErr result (list.new.items ≡ list.old.items) }
@@ -51,7 +51,7 @@ pub(crate) fn extend<T: Clone>(list: &mut Vec<T>, more: &[T]) -> Result<(), Memo
 }
 
 /// Drops the first `n` items. Nothing is copied where `n` is 0.
-pub fn drop_front<T: Clone + Drop>(items: &mut Rc<Vec<T>>, n: usize) -> Result<(), Memory>
+pub fn drop_front<T: Clone + Drop>(items: &mut Rc<Vec<T>>, n: usize) -> Result<(), AllocError>
     requires exact { (x y : T) → T.is_clone x y → y ≡ x }
     requires inside { n ≤ length items.old.value.items }
     ensures dropped { OnOk result (items.new.value.items ≡ drop n items.old.value.items) }
@@ -72,7 +72,7 @@ pub fn drop_front<T: Clone + Drop>(items: &mut Rc<Vec<T>>, n: usize) -> Result<(
 pub fn take_first<T: Clone + Drop>(
     items: &mut Rc<Vec<Option<T>>>,
     start: &mut usize,
-) -> Result<Option<T>, Memory>
+) -> Result<Option<T>, AllocError>
     requires exact { (x y : T) → T.is_clone x y → y ≡ x }
     requires inside { start.old < length items.old.value.items }
     ensures taken { IfOk result (λ o. drop start.old items.old.value.items ≡ o ∷ drop start.new items.new.value.items) }
@@ -86,7 +86,10 @@ pub fn take_first<T: Clone + Drop>(
 }
 
 // Moves the i-th item out of a list with no other owner, and else copies it.
-fn take_part<T: Clone + Drop>(items: &mut Rc<Vec<Option<T>>>, i: usize) -> Result<Option<T>, Memory>
+fn take_part<T: Clone + Drop>(
+    items: &mut Rc<Vec<Option<T>>>,
+    i: usize,
+) -> Result<Option<T>, AllocError>
     requires exact { (x y : T) → T.is_clone x y → y ≡ x }
     requires inside { i < length items.old.value.items }
     ensures taken { IfOk result (λ o. slice_get items.old.value.items i ≡ Some o) }
@@ -106,7 +109,7 @@ pub(crate) fn replace_in<T: Clone + Drop>(
     from: usize,
     to: usize,
     by: Vec<T>,
-) -> Result<(), Memory>
+) -> Result<(), AllocError>
     requires exact { (x y : T) → T.is_clone x y → y ≡ x }
     requires inside { (from ≤ to) × (to ≤ length items.old.value.items) }
     ensures replaced { OnOk result (items.new.value.items ≡ take from items.old.value.items ++ by.items ++ drop to items.old.value.items) }
@@ -122,7 +125,7 @@ pub(crate) fn replace_between<T: Drop>(
     from: usize,
     to: usize,
     by: Vec<T>,
-) -> Result<(), Memory>
+) -> Result<(), AllocError>
     requires { (from ≤ to) × (to ≤ length list.old.items) }
     ensures replaced { OnOk result (list.new.items ≡ take from list.old.items ++ by.items ++ drop to list.old.items) }
     ensures refused { OnErr result (list.new.items ≡ list.old.items) }

@@ -6,8 +6,8 @@ use setl_scalar::ScalarFault;
 use setl_set::{less, walk};
 use setl_text::{line, text};
 use setl_tuple::{TupleFault, put, repeat, with};
-use setl_value::{Memory, SetBody, Text, TupleBody, Value};
-use std::alloc::Global;
+use setl_value::{SetBody, Text, TupleBody, Value};
+use std::alloc::{AllocError, Global};
 
 /// Rows, a line each: what is done with a value, the value, what is told while it is done, and the value after it.
 pub const WORKS: &str = "change | {1 2} | {1 2} true {2 3}$
@@ -20,7 +20,7 @@ lend | {} | {1} {}$
 make | 0 | {} ab -5 0$";
 
 // 3 is put into a set and 1 is taken out: a copy of the set as it was before, and whether both was done.
-fn change_set(w: &mut Work, s: &mut SetBody) -> Result<(), Memory> {
+fn change_set(w: &mut Work, s: &mut SetBody) -> Result<(), AllocError> {
     w.add(Some(Value::Set(s.copy()?)));
     let is_in = setl_set::with(w.alloc, s, Value::Int(3)).is_ok();
     let is_out = less(s, &Value::Int(1)).is_ok();
@@ -29,7 +29,7 @@ fn change_set(w: &mut Work, s: &mut SetBody) -> Result<(), Memory> {
 }
 
 // The first member of a set is taken out: a copy of the set as it was before, and that member.
-fn cut_set(w: &mut Work, s: &mut SetBody) -> Result<(), Memory> {
+fn cut_set(w: &mut Work, s: &mut SetBody) -> Result<(), AllocError> {
     w.add(Some(Value::Set(s.copy()?)));
     if s.len() > 0 {
         w.add_made(s.cut_at(0));
@@ -44,7 +44,7 @@ fn visit(w: &mut Work, s: &SetBody) {
     }
 }
 
-fn work_on_set(w: &mut Work, call: &str, s: &mut SetBody) -> Result<(), Memory> {
+fn work_on_set(w: &mut Work, call: &str, s: &mut SetBody) -> Result<(), AllocError> {
     match call {
         "change" => change_set(w, s),
         "cut" => cut_set(w, s),
@@ -56,7 +56,7 @@ fn work_on_set(w: &mut Work, call: &str, s: &mut SetBody) -> Result<(), Memory> 
 }
 
 // The first component of a tuple becomes 3: a copy of the tuple as it was before, and whether it was done.
-fn change_tuple(w: &mut Work, t: &mut TupleBody) -> Result<(), Memory> {
+fn change_tuple(w: &mut Work, t: &mut TupleBody) -> Result<(), AllocError> {
     w.add(Some(Value::Tuple(t.copy()?)));
     let is_done = put(w.alloc, t, 1, Some(Value::Int(3))).is_ok();
     w.add(Some(Value::Bool(is_done)));
@@ -64,7 +64,7 @@ fn change_tuple(w: &mut Work, t: &mut TupleBody) -> Result<(), Memory> {
 }
 
 // The first and the last component of a tuple.
-fn cut_tuple(w: &mut Work, t: &mut TupleBody) -> Result<(), Memory> {
+fn cut_tuple(w: &mut Work, t: &mut TupleBody) -> Result<(), AllocError> {
     if t.len() < 2 {
         return Ok(());
     }
@@ -73,7 +73,7 @@ fn cut_tuple(w: &mut Work, t: &mut TupleBody) -> Result<(), Memory> {
     Ok(())
 }
 
-fn work_on_tuple(w: &mut Work, call: &str, t: &mut TupleBody) -> Result<(), Memory> {
+fn work_on_tuple(w: &mut Work, call: &str, t: &mut TupleBody) -> Result<(), AllocError> {
     match call {
         "change" => change_tuple(w, t),
         _ => cut_tuple(w, t),
@@ -81,7 +81,7 @@ fn work_on_tuple(w: &mut Work, call: &str, t: &mut TupleBody) -> Result<(), Memo
 }
 
 // Whether a copy is equal, and the copy.
-fn copy(w: &mut Work, v: &Value) -> Result<(), Memory> {
+fn copy(w: &mut Work, v: &Value) -> Result<(), AllocError> {
     let copy = v.copy()?;
     w.add(Some(Value::Bool(copy == *v)));
     w.add(Some(copy));
@@ -97,7 +97,7 @@ fn lend(w: &mut Work, v: &Value) {
 }
 
 // An empty set, a string of these bytes and one of the text of an integer.
-fn make(w: &mut Work) -> Result<(), Memory> {
+fn make(w: &mut Work) -> Result<(), AllocError> {
     w.add(Some(Value::Set(SetBody::new(w.alloc)?)));
     w.add(Some(Value::Text(Text::of(w.alloc, b"ab")?)));
     let five = text(w.alloc, &Value::Int(-5))?;
@@ -105,7 +105,7 @@ fn make(w: &mut Work) -> Result<(), Memory> {
     Ok(())
 }
 
-fn work_on_body(w: &mut Work, call: &str, v: &mut Value) -> Result<(), Memory> {
+fn work_on_body(w: &mut Work, call: &str, v: &mut Value) -> Result<(), AllocError> {
     match v {
         Value::Set(s) => work_on_set(w, call, s),
         Value::Tuple(t) => work_on_tuple(w, call, t),
@@ -113,7 +113,7 @@ fn work_on_body(w: &mut Work, call: &str, v: &mut Value) -> Result<(), Memory> {
     }
 }
 
-fn work(w: &mut Work, call: &str, v: &mut Value) -> Result<(), Memory> {
+fn work(w: &mut Work, call: &str, v: &mut Value) -> Result<(), AllocError> {
     match call {
         "copy" => copy(w, v),
         "lend" => {

@@ -1,8 +1,8 @@
 //! The canonical order of all kinds, values as keys, and the greatest depth.
 
 use crate::written::Work;
-use setl_value::{Memory, Value};
-use std::alloc::Global;
+use setl_value::Value;
+use std::alloc::{AllocError, Global};
 use std::cmp::Ordering;
 use std::collections::{BTreeMap, HashMap};
 use std::process::Abort;
@@ -41,7 +41,7 @@ fn add_keys(
     from: usize,
     tree: &mut BTreeMap<Value, usize>,
     hash: &mut HashMap<Value, usize>,
-) -> Result<(), Memory> {
+) -> Result<(), AllocError> {
     for (i, v) in all.iter().enumerate().skip(from) {
         if let Some(v) = v {
             tree.insert(v.copy()?, i)?;
@@ -79,7 +79,7 @@ fn expect_keys(
     alloc: Global,
     all: &[Option<Value>],
     from: usize,
-) -> Result<(), Memory> {
+) -> Result<(), AllocError> {
     let mut tree = BTreeMap::new(alloc);
     let mut hash = HashMap::new(alloc);
     add_keys(all, from, &mut tree, &mut hash)?;
@@ -94,7 +94,7 @@ fn expect_order(
     rows: &str,
     count: usize,
     from: usize,
-) -> Result<(), Memory> {
+) -> Result<(), AllocError> {
     for row in rows.lines() {
         w.read(row);
     }
@@ -104,7 +104,7 @@ fn expect_order(
 }
 
 // A copy of a value is equal, and as deep.
-fn expect_copy(rt: &impl Abort, v: &Value, depth: u32) -> Result<(), Memory> {
+fn expect_copy(rt: &impl Abort, v: &Value, depth: u32) -> Result<(), AllocError> {
     let copy = v.copy()?;
     assert_eq!(rt; copy.depth(), depth);
     assert_eq!(rt; copy.compare(v), Ordering::Equal);
@@ -117,7 +117,7 @@ fn values_stand_in_the_canonical_order_and_are_keys_of_maps(rt: HostRuntime) -> 
     Ok(())
 }
 
-fn expect_deep(rt: &impl Abort, w: &mut Work) -> Result<(), Memory> {
+fn expect_deep(rt: &impl Abort, w: &mut Work) -> Result<(), AllocError> {
     expect_order(rt, w, DEEP, 2, 1)?;
     match w.values.last() {
         Some(Some(v)) => expect_copy(rt, v, 500),

@@ -2,17 +2,17 @@
 
 use crate::written::Work;
 use setl_io::{
-    Files, Load, MemFiles, MemSink, MemSource, Memory, Put, Sink, Source, SureFiles, SureSink,
-    SureSource, Took, WriteFault, write_all,
+    Files, Load, MemFiles, MemSink, MemSource, Put, Sink, Source, SureFiles, SureSink, SureSource,
+    Took, WriteFault, write_all,
 };
-use std::alloc::Global;
+use std::alloc::{AllocError, Global};
 
 // Each text behind its name; the second one of `a` comes in place of the first.
 const TEXTS: &str = "a other
 b d
 a abc";
 
-fn add_to_mem(alloc: Global, files: &mut MemFiles) -> Result<(), Memory> {
+fn add_to_mem(alloc: Global, files: &mut MemFiles) -> Result<(), AllocError> {
     for row in TEXTS.lines() {
         let (name, text) = row.split_once(' ').unwrap_or((row, ""));
         let text = text.as_bytes().to_vec(alloc)?;
@@ -21,7 +21,7 @@ fn add_to_mem(alloc: Global, files: &mut MemFiles) -> Result<(), Memory> {
     Ok(())
 }
 
-fn add_to_sure(alloc: Global, files: &mut SureFiles) -> Result<(), Memory> {
+fn add_to_sure(alloc: Global, files: &mut SureFiles) -> Result<(), AllocError> {
     for row in TEXTS.lines() {
         let (name, text) = row.split_once(' ').unwrap_or((row, ""));
         let text = text.as_bytes().to_vec(alloc)?;
@@ -41,7 +41,7 @@ fn mark_of_load(load: Load) -> &'static str {
 }
 
 // Loads a text, which is written with its limit, into a list that isn't empty: what stands there then, and the mark.
-fn put_load<F: Files>(w: &mut Work, files: &mut F, text: &str) -> Result<(), Memory> {
+fn put_load<F: Files>(w: &mut Work, files: &mut F, text: &str) -> Result<(), AllocError> {
     let (name, limit) = text.split_once(':').unwrap_or((text, ""));
     let mut into = vec![in w.alloc; b'?'; 1]?;
     let load = files.load(name, limit.parse().unwrap_or(0), &mut into);
@@ -50,7 +50,7 @@ fn put_load<F: Files>(w: &mut Work, files: &mut F, text: &str) -> Result<(), Mem
     Ok(())
 }
 
-fn put_loads<F: Files>(w: &mut Work, files: &mut F, texts: &str) -> Result<(), Memory> {
+fn put_loads<F: Files>(w: &mut Work, files: &mut F, texts: &str) -> Result<(), AllocError> {
     for text in texts.split(',') {
         put_load(w, files, text)?;
     }
@@ -58,13 +58,13 @@ fn put_loads<F: Files>(w: &mut Work, files: &mut F, texts: &str) -> Result<(), M
 }
 
 // Loads, of which the one of this number fails.
-fn put_mem_loads(w: &mut Work, failing: u64, texts: &str) -> Result<(), Memory> {
+fn put_mem_loads(w: &mut Work, failing: u64, texts: &str) -> Result<(), AllocError> {
     let mut files = MemFiles::new(w.alloc, vec![in w.alloc; failing; 1]?)?;
     add_to_mem(w.alloc, &mut files)?;
     put_loads(w, &mut files, texts)
 }
 
-fn put_sure_loads(w: &mut Work, texts: &str) -> Result<(), Memory> {
+fn put_sure_loads(w: &mut Work, texts: &str) -> Result<(), AllocError> {
     let mut files = SureFiles::new(w.alloc)?;
     add_to_sure(w.alloc, &mut files)?;
     put_loads(w, &mut files, texts)
@@ -86,7 +86,7 @@ fn put_reads<S: Source>(w: &mut Work, source: &mut S) {
 }
 
 // Four reads of `abc`, which comes in pieces, and of which the read of this number fails.
-fn put_mem_reads(w: &mut Work, piece: usize, failing: u64) -> Result<(), Memory> {
+fn put_mem_reads(w: &mut Work, piece: usize, failing: u64) -> Result<(), AllocError> {
     if piece == 0 {
         return Ok(());
     }
@@ -117,7 +117,7 @@ fn mark_of_writing(outcome: Result<(), WriteFault>) -> &'static str {
 
 // Three writes to a sink, or a whole piece written to it, and what the sink holds then. It takes so many bytes a call and
 // fails at the call of this number.
-fn put_mem_writes(w: &mut Work, most: usize, failing: u64, piece: &str) -> Result<(), Memory> {
+fn put_mem_writes(w: &mut Work, most: usize, failing: u64, piece: &str) -> Result<(), AllocError> {
     let mut sink = MemSink::new(w.alloc, most, vec![in w.alloc; failing; 1]?)?;
     if piece == "thrice" {
         put_writes(w, &mut sink);
@@ -128,13 +128,13 @@ fn put_mem_writes(w: &mut Work, most: usize, failing: u64, piece: &str) -> Resul
     Ok(())
 }
 
-fn put_sure_reads(w: &mut Work) -> Result<(), Memory> {
+fn put_sure_reads(w: &mut Work) -> Result<(), AllocError> {
     let mut source = SureSource::new(b"abc".to_vec(w.alloc)?);
     put_reads(w, &mut source);
     Ok(())
 }
 
-fn put_sure_writes(w: &mut Work) -> Result<(), Memory> {
+fn put_sure_writes(w: &mut Work) -> Result<(), AllocError> {
     let mut sink = SureSink::new(w.alloc)?;
     put_writes(w, &mut sink);
     w.put_bytes(sink.held());
@@ -182,7 +182,7 @@ fn fields(row: &str) -> [&str; 4] {
     ]
 }
 
-fn calls(w: &mut Work, row: &str) -> Result<(), Memory> {
+fn calls(w: &mut Work, row: &str) -> Result<(), AllocError> {
     let [call, bytes, failing, text] = fields(row);
     let bytes = bytes.parse().unwrap_or(0);
     let failing = failing.parse().unwrap_or(0);

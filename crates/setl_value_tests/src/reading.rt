@@ -5,7 +5,7 @@ ghost use Rattle.std.specs.Prelude.{◌<◌};
 use crate::written::Work;
 use setl_io::MemSource;
 use setl_text::{Got, ReadFault, Reader, line};
-use setl_value::Memory;
+use std::alloc::AllocError;
 use std::process::Abort;
 use std::test::Fail;
 
@@ -55,7 +55,7 @@ fn put_answers(w: &mut Work, reader: &mut Reader, input: &mut MemSource) {
 }
 
 // The answers of an input that gives so many bytes a call, and whose calls of these numbers fail.
-fn put_pieces(w: &mut Work, input: &str, piece: usize, fails: &[u64]) -> Result<(), Memory>
+fn put_pieces(w: &mut Work, input: &str, piece: usize, fails: &[u64]) -> Result<(), AllocError>
     requires { 0 < piece }
 {
     let bytes = input.as_bytes().to_vec(w.alloc)?;
@@ -101,7 +101,7 @@ const INPUTS: &str = "{1 [2 'a']} 7 => {1 [2 'a']} 7 ..
 -170141183460469231731687303715884105728 -170141183460469231731687303715884105729 => -170141183460469231731687303715884105728 WW";
 
 // Reads the input of a row in pieces of this size, writes the row anew, and compares.
-fn expect_pieces(rt: &impl Abort, w: &mut Work, row: &str, piece: usize) -> Result<(), Memory>
+fn expect_pieces(rt: &impl Abort, w: &mut Work, row: &str, piece: usize) -> Result<(), AllocError>
     requires { 0 < piece }
 {
     let (input, _) = row.split_once(" => ").unwrap_or((row, ""));
@@ -113,7 +113,7 @@ fn expect_pieces(rt: &impl Abort, w: &mut Work, row: &str, piece: usize) -> Resu
     Ok(())
 }
 
-fn expect_input(rt: &impl Abort, w: &mut Work, row: &str) -> Result<(), Memory> {
+fn expect_input(rt: &impl Abort, w: &mut Work, row: &str) -> Result<(), AllocError> {
     for piece in 1..30 {
         expect_pieces(rt, w, row, piece)?;
     }
@@ -139,7 +139,7 @@ deep 500 | [
 deep 501 | D";
 
 // What is told of so many opening brackets, and as many closing ones.
-fn put_brackets(w: &mut Work, depth: usize) -> Result<(), Memory> {
+fn put_brackets(w: &mut Work, depth: usize) -> Result<(), AllocError> {
     let mut bytes = vec![in w.alloc; b'['; depth]?;
     bytes.extend_from_slice(vec![in w.alloc; b']'; depth]?.as_slice())?;
     let mut reader = Reader::new(w.alloc)?;
@@ -149,7 +149,7 @@ fn put_brackets(w: &mut Work, depth: usize) -> Result<(), Memory> {
 }
 
 // The first sign of it.
-fn put_first_sign(w: &mut Work, depth: usize) -> Result<(), Memory> {
+fn put_first_sign(w: &mut Work, depth: usize) -> Result<(), AllocError> {
     let mut all = Work::new(w.alloc);
     put_brackets(&mut all, depth)?;
     w.put_bytes(all.text.as_bytes().get(..1).unwrap_or(b"?"));

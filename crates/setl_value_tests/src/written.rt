@@ -2,8 +2,8 @@
 
 use setl_io::MemSource;
 use setl_text::{Got, Reader, text};
-use setl_value::{Memory, Value};
-use std::alloc::Global;
+use setl_value::Value;
+use std::alloc::{AllocError, Global};
 use std::fmt::{Debug, Write};
 
 /// Values, where None is `om`, and a text. A call that finds no memory leaves a note.
@@ -33,7 +33,7 @@ impl Work {
     }
 
     /// Notes that memory was refused, if it was.
-    pub fn note(&mut self, outcome: Result<(), Memory>) {
+    pub fn note(&mut self, outcome: Result<(), AllocError>) {
         if outcome.is_err() {
             self.is_refused = true;
         }
@@ -64,7 +64,7 @@ impl Work {
     }
 
     /// Adds bytes that were made, if they were.
-    pub fn put_made(&mut self, bytes: &Result<Vec<u8>, Memory>) {
+    pub fn put_made(&mut self, bytes: &Result<Vec<u8>, AllocError>) {
         match bytes {
             Ok(bytes) => self.put_bytes(bytes.as_slice()),
             Err(_) => self.is_refused = true,
@@ -93,7 +93,7 @@ impl Work {
     }
 
     /// Adds a value that was made, if it was.
-    pub fn add_made(&mut self, made: Result<Value, Memory>) {
+    pub fn add_made(&mut self, made: Result<Value, AllocError>) {
         match made {
             Ok(v) => self.add(Some(v)),
             Err(_) => self.is_refused = true,
@@ -135,13 +135,13 @@ impl Work {
     }
 
     // Adds the value of nothing but so many brackets of each kind.
-    fn read_tower(&mut self, open: &str, close: &str, height: usize) -> Result<(), Memory> {
+    fn read_tower(&mut self, open: &str, close: &str, height: usize) -> Result<(), AllocError> {
         let mut denotation = open.repeat(self.alloc, height)?;
         denotation.push_str(close.repeat(self.alloc, height)?.as_str())?;
         self.read_denoted(denotation.as_str())
     }
 
-    fn read_denoted(&mut self, denotations: &str) -> Result<(), Memory> {
+    fn read_denoted(&mut self, denotations: &str) -> Result<(), AllocError> {
         let bytes = denotations.as_bytes().to_vec(self.alloc)?;
         let mut source = MemSource::new(bytes, 4096, Vec::new(self.alloc));
         let mut reader = Reader::new(self.alloc)?;

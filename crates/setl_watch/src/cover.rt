@@ -4,7 +4,7 @@ ghost use Rattle.std.specs.Prelude.{◌≡◌, ◌≤◌, ◌<◌, ◌^◌, ◌-
 ghost use Rattle.setl_watch.specs.Covers.{cover, all_counted, counted, cover_report, has, place};
 
 use crate::text::push_word;
-use crate::{Event, Memory, Wants, Watcher};
+use crate::{Event, Wants, Watcher};
 use setl_text::push_decimal;
 use std::alloc::{AllocError, Global};
 use std::marker::Model;
@@ -27,7 +27,7 @@ impl Model for Cover {
 
 impl Cover {
     /// No store. The error is want of memory.
-    pub fn new(alloc: Global) -> Result<Cover, Memory>
+    pub fn new(alloc: Global) -> Result<Cover, AllocError>
         ensures { IfOk result (λ c. c ≡ []) }
     {
         Ok(Cover {
@@ -38,7 +38,7 @@ impl Cover {
 
     /// Counts a store at a line. The error is want of memory, or that the line has 2^64 - 1 stores, where no memory was
     /// refused, and then the cover is as before. No clause rules that out; it takes 2^64 - 1 events.
-    fn count(&mut self, line: u32) -> Result<(), Memory>
+    fn count(&mut self, line: u32) -> Result<(), AllocError>
         ensures ok { OnOk result (self.new ≡ counted line self.old) }
         ensures err { OnErr result (self.new ≡ self.old) }
     {
@@ -66,7 +66,7 @@ impl Cover {
     }
 
     /// The lines of the report.
-    fn lines(&self) -> Result<Vec<u8>, Memory>
+    fn lines(&self) -> Result<Vec<u8>, AllocError>
         ensures { IfOk result (λ lines. lines.items ≡ cover_report self.now) }
     {
         let mut into = Vec::new(self.alloc);
@@ -99,7 +99,7 @@ fn has(counts: &[(u32, u64)], at: usize, line: u32) -> bool
 }
 
 /// Adds the line of a line and its count.
-fn push_count(into: &mut Vec<u8>, line: u32, count: u64) -> Result<(), Memory>
+fn push_count(into: &mut Vec<u8>, line: u32, count: u64) -> Result<(), AllocError>
     ensures { OnOk result (into.new.items ≡ into.old.items ++ cover_report ((line, count) ∷ [])) }
 {
     push_word(into, "line ")?;
@@ -127,7 +127,7 @@ impl Watcher for Cover {
         }
     }
 
-    fn report(&self, into: &mut Vec<u8>) -> Result<(), Memory> {
+    fn report(&self, into: &mut Vec<u8>) -> Result<(), AllocError> {
         let lines = self.lines()?;
         into.extend_from_slice(&lines)
     }

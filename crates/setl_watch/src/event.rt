@@ -5,10 +5,9 @@ ghost use Rattle.setl_value.specs.code.DatumOf.{part};
 ghost use Rattle.setl_watch.specs.Notices.{Stored};
 ghost use Rattle.setl_watch.specs.code.NoticeOf.{notice_of};
 
-use crate::Memory;
 use setl_tree::Text;
 use setl_value::Value;
-use std::alloc::Global;
+use std::alloc::{AllocError, Global};
 
 /// What happened in a run. Lines are those of statements in the source, from 1.
 #[derive(Drop)]
@@ -42,7 +41,7 @@ pub enum Event {
 
 impl Event {
     /// The same event, which shares its name and its value. The error is want of memory.
-    pub fn copy(&self, alloc: Global) -> Result<Event, Memory>
+    pub fn copy(&self, alloc: Global) -> Result<Event, AllocError>
         ensures { IfOk result (λ e. notice_of e ≡ notice_of self.now) }
     {
         match self {
@@ -63,7 +62,7 @@ impl Event {
 }
 
 /// A store with the same name and value.
-fn copy_store(line: u32, name: &Text, value: &Option<Value>) -> Result<Event, Memory>
+fn copy_store(line: u32, name: &Text, value: &Option<Value>) -> Result<Event, AllocError>
     ensures { IfOk result (λ e. notice_of e ≡ Stored line name.now (part value.now)) }
 {
     let name = name.copy()?;

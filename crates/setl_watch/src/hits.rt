@@ -3,7 +3,8 @@
 ghost use Rattle.std.specs.Prelude.{◌≡◌, IsTrue};
 ghost use Rattle.setl_watch.specs.HitCounts.{hits};
 
-use crate::{Event, Memory, Wants, Watcher};
+use crate::{Event, Wants, Watcher};
+use std::alloc::AllocError;
 
 /// The watcher with the name 4: it counts the stores at the line that it is aimed at, never has enough, and reports
 /// nothing. Before it is aimed its line is 0, which no statement has.
@@ -42,7 +43,7 @@ impl Watcher for Hits {
         }
     }
 
-    fn report(&self, _into: &mut Vec<u8>) -> Result<(), Memory> {
+    fn report(&self, _into: &mut Vec<u8>) -> Result<(), AllocError> {
         Ok(())
     }
 

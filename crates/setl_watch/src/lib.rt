@@ -20,6 +20,5 @@ pub use event::Event;
 pub use hits::Hits;
 pub use laws::told_in_parts;
 pub use profile::Profile;
-pub use std::alloc::AllocError as Memory;
 pub use trace::Trace;
 pub use watcher::{Wants, Watcher, report_all, tell, tell_each};

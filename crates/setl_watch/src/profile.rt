@@ -4,7 +4,7 @@ ghost use Rattle.std.specs.Prelude.{◌≡◌, ◌^◌, ◌-◌, ◌++◌, ◌�
 ghost use Rattle.setl_watch.specs.Profiles.{profile, lines_of, calls_in, with_call};
 
 use crate::text::push_word;
-use crate::{Event, Memory, Wants, Watcher};
+use crate::{Event, Wants, Watcher};
 use indexmap::IndexMap;
 use setl_text::push_decimal;
 use setl_tree::Text;
@@ -32,7 +32,7 @@ impl Model for Profile {
 
 impl Profile {
     /// No call. The error is want of memory.
-    pub fn new(alloc: Global) -> Result<Profile, Memory>
+    pub fn new(alloc: Global) -> Result<Profile, AllocError>
         ensures { IfOk result (λ p. p ≡ []) }
     {
         Ok(Profile {
@@ -43,7 +43,7 @@ impl Profile {
 
     /// Counts a call at a line. The error is want of memory, or that the procedure has 2^64 - 1 calls, where no memory was
     /// refused, and then the profile is as before. No clause rules that out; it takes 2^64 - 1 events.
-    fn count_call(&mut self, line: u32, name: &Text) -> Result<(), Memory>
+    fn count_call(&mut self, line: u32, name: &Text) -> Result<(), AllocError>
         ensures ok { OnOk result (self.new ≡ with_call line name.now self.old) }
         ensures err { OnErr result (self.new ≡ self.old) }
     {
@@ -72,7 +72,7 @@ impl Profile {
     }
 
     /// The lines of the report.
-    fn lines(&self) -> Result<Vec<u8>, Memory>
+    fn lines(&self) -> Result<Vec<u8>, AllocError>
         ensures { IfOk result (λ lines. lines.items ≡ lines_of self.now) }
     {
         let mut into = Vec::new(self.alloc);
@@ -84,7 +84,7 @@ impl Profile {
 }
 
 /// Adds the line of a procedure.
-fn push_calls(into: &mut Vec<u8>, name: &Vec<u8>, count: u64) -> Result<(), Memory>
+fn push_calls(into: &mut Vec<u8>, name: &Vec<u8>, count: u64) -> Result<(), AllocError>
     ensures { OnOk result (into.new.items ≡ into.old.items ++ (codes "proc " ++ name.now.items ++ codes ": " ++ decimal count ++ 10 ∷ [])) }
 {
     push_word(into, "proc ")?;
@@ -114,7 +114,7 @@ impl Watcher for Profile {
     }
 
     #[tactic(auto, using(crate::proofs::Profiling::report_is))]
-    fn report(&self, into: &mut Vec<u8>) -> Result<(), Memory> {
+    fn report(&self, into: &mut Vec<u8>) -> Result<(), AllocError> {
         let lines = self.lines()?;
         into.extend_from_slice(&lines)
     }

@@ -5,21 +5,21 @@ ghost use Rattle.setl_value.specs.code.DatumOf.{part};
 ghost use Rattle.setl_watch.specs.code.NoticeOf.{notice_of};
 ghost use Rattle.setl_watch.specs.Traces.{event_text, value_text};
 
-use crate::{Event, Memory};
+use crate::Event;
 use setl_text::push_decimal;
 use setl_tree::Text;
 use setl_value::Value;
-use std::alloc::Global;
+use std::alloc::{AllocError, Global};
 
 /// Adds a word as it is.
-pub(crate) fn push_word(into: &mut Vec<u8>, word: &str) -> Result<(), Memory>
+pub(crate) fn push_word(into: &mut Vec<u8>, word: &str) -> Result<(), AllocError>
     ensures { OnOk result (into.new.items ≡ into.old.items ++ word.now) }
 {
     into.extend_from_slice(word.as_bytes())
 }
 
 /// Adds the line of an event, without byte 10.
-pub(crate) fn push_event(into: &mut Vec<u8>, e: &Event, alloc: Global) -> Result<(), Memory>
+pub(crate) fn push_event(into: &mut Vec<u8>, e: &Event, alloc: Global) -> Result<(), AllocError>
     ensures { OnOk result (into.new.items ≡ into.old.items ++ event_text (notice_of e.now)) }
 {
     match e {
@@ -44,7 +44,7 @@ pub(crate) fn push_event(into: &mut Vec<u8>, e: &Event, alloc: Global) -> Result
 }
 
 /// Adds a word, a line and a name.
-fn push_at_line(into: &mut Vec<u8>, word: &str, line: u32, name: &Text) -> Result<(), Memory>
+fn push_at_line(into: &mut Vec<u8>, word: &str, line: u32, name: &Text) -> Result<(), AllocError>
     ensures { OnOk result (into.new.items ≡ into.old.items ++ (word.now ++ decimal line ++ 32 ∷ name.now)) }
 {
     push_word(into, word)?;
@@ -54,7 +54,7 @@ fn push_at_line(into: &mut Vec<u8>, word: &str, line: u32, name: &Text) -> Resul
 }
 
 /// Adds the text of a value or of `om`.
-fn push_value(into: &mut Vec<u8>, value: &Option<Value>, alloc: Global) -> Result<(), Memory>
+fn push_value(into: &mut Vec<u8>, value: &Option<Value>, alloc: Global) -> Result<(), AllocError>
     ensures { OnOk result (into.new.items ≡ into.old.items ++ value_text (part value.now)) }
 {
     match value {

@@ -5,8 +5,8 @@ ghost use Rattle.setl_watch.specs.code.NoticeOf.{notice_of};
 ghost use Rattle.setl_watch.specs.Traces.{trace, trace_report};
 
 use crate::text::push_event;
-use crate::{Event, Memory, Wants, Watcher};
-use std::alloc::Global;
+use crate::{Event, Wants, Watcher};
+use std::alloc::{AllocError, Global};
 use std::marker::Model;
 
 /// How many events a trace keeps.
@@ -36,7 +36,7 @@ impl Model for Trace {
 
 impl Trace {
     /// No event. The error is want of memory.
-    pub fn new(alloc: Global) -> Result<Trace, Memory>
+    pub fn new(alloc: Global) -> Result<Trace, AllocError>
         ensures { IfOk result (λ t. t ≡ []) }
     {
         Ok(Trace {
@@ -46,7 +46,7 @@ impl Trace {
     }
 
     /// Keeps an event. The error is want of memory, and then the trace is as before.
-    fn keep(&mut self, e: &Event) -> Result<(), Memory>
+    fn keep(&mut self, e: &Event) -> Result<(), AllocError>
         ensures ok { OnOk result (self.new ≡ self.old ++ notice_of e.now ∷ []) }
         ensures err { OnErr result (self.new ≡ self.old) }
     {
@@ -56,7 +56,7 @@ impl Trace {
     }
 
     /// The lines of the events.
-    fn lines(&self) -> Result<Vec<u8>, Memory>
+    fn lines(&self) -> Result<Vec<u8>, AllocError>
         ensures { IfOk result (λ lines. lines.items ≡ trace_report self.now) }
     {
         let mut into = Vec::new(self.alloc);
@@ -86,7 +86,7 @@ impl Watcher for Trace {
         }
     }
 
-    fn report(&self, into: &mut Vec<u8>) -> Result<(), Memory> {
+    fn report(&self, into: &mut Vec<u8>) -> Result<(), AllocError> {
         let lines = self.lines()?;
         into.extend_from_slice(&lines)
     }

@@ -5,7 +5,7 @@ ghost use Rattle.setl_watch.specs.code.NoticeOf.{notice_of};
 ghost use Rattle.setl_watch.specs.Watches.{Watch, counted_by, aimed_at, after, has_enough, reported, all_reported, watched, told, told_each};
 ghost use Rattle.setl_watch.specs.code.Telling.{told_from};
 
-use crate::{Event, Memory};
+use crate::Event;
 use std::alloc::AllocError;
 
 /// What a watcher answers to an event.
@@ -35,7 +35,7 @@ pub trait Watcher: Drop {
         ensures refused { result ≡ Wants.NoMemory → watch self.new ≡ watch self.old };
 
     /// Adds its report. The error is want of memory, and then `into` is as before.
-    fn report(&self, into: &mut Vec<u8>) -> Result<(), Memory>
+    fn report(&self, into: &mut Vec<u8>) -> Result<(), AllocError>
         ensures added { OnOk result (into.new.items ≡ into.old.items ++ reported (watch self.now)) }
         ensures refused { OnErr result (into.new.items ≡ into.old.items) };
 
@@ -55,7 +55,7 @@ pub fn tell(
     watchers: &mut Vec<Box<dyn Watcher>>,
     e: &Event,
     reports: &mut Vec<u8>,
-) -> Result<(), Memory>
+) -> Result<(), AllocError>
     ensures { OnOk result (watched (map (λ w. watch w) watchers.new.items) reports.new.items ≡ told (notice_of e.now) (map (λ w. watch w) watchers.old.items) reports.old.items) }
 {
     let mut at = 0;
@@ -71,7 +71,7 @@ pub fn tell_each(
     watchers: &mut Vec<Box<dyn Watcher>>,
     events: &[Event],
     reports: &mut Vec<u8>,
-) -> Result<(), Memory>
+) -> Result<(), AllocError>
     ensures { OnOk result (watched (map (λ w. watch w) watchers.new.items) reports.new.items ≡ told_each (map notice_of events.now) (watched (map (λ w. watch w) watchers.old.items) reports.old.items)) }
 {
     for e in events {
@@ -86,7 +86,7 @@ fn tell_one(
     at: usize,
     e: &Event,
     reports: &mut Vec<u8>,
-) -> Result<usize, Memory>
+) -> Result<usize, AllocError>
     requires { at < length watchers.old.items }
     ensures told { IfOk result (λ next. told_from next (notice_of e.now) (map (λ w. watch w) watchers.new.items) reports.new.items ≡ told_from at (notice_of e.now) (map (λ w. watch w) watchers.old.items) reports.old.items) }
     ensures there { IfOk result (λ next. next ≤ length watchers.new.items) }
@@ -112,14 +112,14 @@ fn tell_this(watcher: &mut Box<dyn Watcher>, e: &Event) -> Wants
 }
 
 /// Adds the report of one watcher. The error is want of memory.
-fn report_this(watcher: &Box<dyn Watcher>, reports: &mut Vec<u8>) -> Result<(), Memory>
+fn report_this(watcher: &Box<dyn Watcher>, reports: &mut Vec<u8>) -> Result<(), AllocError>
     ensures { OnOk result (reports.new.items ≡ reports.old.items ++ reported (watch watcher.now)) }
 {
     watcher.report(reports)
 }
 
 /// Adds the reports of all watchers, in order. The error is want of memory.
-pub fn report_all(watchers: &[Box<dyn Watcher>], reports: &mut Vec<u8>) -> Result<(), Memory>
+pub fn report_all(watchers: &[Box<dyn Watcher>], reports: &mut Vec<u8>) -> Result<(), AllocError>
     ensures { OnOk result (reports.new.items ≡ reports.old.items ++ all_reported (map (λ w. watch w) watchers.now)) }
 {
     for w in watchers {

@@ -5,8 +5,8 @@ ghost use Rattle.setl_watch_tests.specs.Counting.{counting};
 
 use setl_tree::Text;
 use setl_value::Value;
-use setl_watch::{Cover, Event, Hits, Memory, Profile, Trace, Wants, Watcher, report_all, tell};
-use std::alloc::Global;
+use setl_watch::{Cover, Event, Hits, Profile, Trace, Wants, Watcher, report_all, tell};
+use std::alloc::{AllocError, Global};
 use std::test::Fail;
 
 /// Counts what it is told, has enough at so many events, and may refuse memory.
@@ -37,7 +37,7 @@ impl Watcher for Counting {
         }
     }
 
-    fn report(&self, into: &mut Vec<u8>) -> Result<(), Memory> {
+    fn report(&self, into: &mut Vec<u8>) -> Result<(), AllocError> {
         into.extend_from_slice(&[self.name, self.told])
     }
 
