@@ -1,6 +1,6 @@
 //! Modes.
 
-ghost use Rattle.std.specs.Prelude.{◌≡◌, ◌++◌, ◌∷◌, [], ℕ, List, IfOk, OnOk};
+ghost use Rattle.std.specs.Prelude.{◌≡◌, ◌++◌, ◌∷◌, [], ℕ, List, OnOk};
 ghost use Rattle.setl_modes.specs.declared.mode.Form.{Form};
 ghost use Rattle.setl_modes.specs.Modes.{mode_of};
 ghost use Rattle.setl_modes.specs.Modes as plain;
@@ -13,7 +13,7 @@ ghost use Rattle.setl_image.specs.ModeText.{mode_text};
 use setl_image_codec::{ImageFault, push_number, read_number};
 use setl_image_format::Kind;
 use setl_image_steps::at;
-use setl_modes::{Form, Mode, NamedMode};
+use setl_modes::{Form, Mode, NamedMode, copied_box};
 use setl_tree::Boxed;
 use std::alloc::{AllocError, Global};
 
@@ -169,40 +169,6 @@ fn read_mmap<'a>(
     let (second, rest) = read_inner(alloc, bases, left, rest)?;
     let first = Boxed::new(alloc, first)?;
     Ok((Mode::Mmap(form, first, Boxed::new(alloc, second)?), rest))
-}
-
-// The same mode again.
-#[cycle(copies)]
-fn copied(alloc: Global, m: &Mode) -> Result<Mode, AllocError>
-    ensures { IfOk result (λ again. mode_of again ≡ mode_of m.now) }
-{
-    match m {
-        Mode::General => Ok(Mode::General),
-        Mode::Int => Ok(Mode::Int),
-        Mode::Str => Ok(Mode::Str),
-        Mode::Boolean => Ok(Mode::Boolean),
-        Mode::Atom => Ok(Mode::Atom),
-        Mode::Elmt(base, members) => Ok(Mode::Elmt(*base, copied_box(alloc, members.get())?)),
-        Mode::Set(form, members) => Ok(Mode::Set(*form, copied_box(alloc, members.get())?)),
-        Mode::Tuple(parts) => Ok(Mode::Tuple(copied_box(alloc, parts.get())?)),
-        Mode::Smap(form, domain, range) => {
-            let domain = copied_box(alloc, domain.get())?;
-            Ok(Mode::Smap(*form, domain, copied_box(alloc, range.get())?))
-        }
-        Mode::Mmap(form, domain, images) => {
-            let domain = copied_box(alloc, domain.get())?;
-            Ok(Mode::Mmap(*form, domain, copied_box(alloc, images.get())?))
-        }
-    }
-}
-
-// The same mode again in a box.
-#[cycle(copies)]
-fn copied_box(alloc: Global, m: &Mode) -> Result<Boxed<Mode>, AllocError>
-    ensures { IfOk result (λ again. mode_of again ≡ mode_of m.now) }
-{
-    let again = copied(alloc, m)?;
-    Boxed::new(alloc, again)
 }
 
 /// Adds a mode.

@@ -17,10 +17,10 @@ ghost use Rattle.setl_machine.specs.declared.families.Family.{Family};
 use crate::telling::alone_telling;
 use setl_code::{Body, Code, Instr};
 use setl_code_events::call_events;
-use setl_machine_control::{Control, End, copied, pop_top};
+use setl_machine_control::{Control, End, pop_top};
 use setl_machine_variables::Declarations;
 use setl_store::Store;
-use setl_value::Value;
+use setl_value::{Value, copied_part};
 use setl_watch::Event;
 use std::alloc::{AllocError, Global};
 
@@ -184,7 +184,7 @@ fn copies(alloc: Global, values: &[Option<Value>]) -> Result<Vec<Option<Value>>,
 {
     let mut all = Vec::with_capacity(alloc, values.len())?;
     for value in values {
-        all.push(copied(value)?)?;
+        all.push(copied_part(value)?)?;
     }
     Ok(all)
 }

@@ -10,10 +10,10 @@ ghost use Rattle.setl_machine.specs.Families.{family_of};
 ghost use Rattle.setl_machine.specs.declared.families.Family.{Family};
 
 use setl_code::Instr;
-use setl_machine_control::{End, StopKind, copied, go_on, pop_top};
+use setl_machine_control::{End, StopKind, go_on, pop_top};
 use setl_program::Connective;
 use setl_store::{Store, Top};
-use setl_value::Value;
+use setl_value::{Value, copied_part};
 use std::alloc::AllocError;
 
 /// Does an instruction of conditions, jumps, the top operand, or the end of the run. The error is want of memory.
@@ -156,7 +156,7 @@ fn duplicate_any(store: &mut Store<'_>) -> Result<End, AllocError>
     let Some(value) = pop_top(store)? else {
         return Ok(End::Stuck);
     };
-    let other = copied(&value)?;
+    let other = copied_part(&value)?;
     store.push(value)?;
     store.push(other)?;
     go_on(store);

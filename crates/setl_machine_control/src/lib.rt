@@ -13,5 +13,5 @@ pub use backtracking::{back, forget, keep};
 pub use control::Control;
 pub use declaration::{Declaration, refusal};
 pub use end::{End, StopKind};
-pub use operands::{copied, end_by, go_on, pop_top};
+pub use operands::{end_by, go_on, pop_top};
 pub use updating::{Target, end_update};

@@ -31,17 +31,6 @@ pub fn pop_top(store: &mut Store<'_>) -> Result<Option<Option<Value>>, AllocErro
     }
 }
 
-/// An equal of a value, which shares its body. The error is want of memory.
-#[inline]
-pub fn copied(value: &Option<Value>) -> Result<Option<Value>, AllocError>
-    ensures { IfOk result (λ other. other ≡ value.now) }
-{
-    match value {
-        Some(value) => Ok(Some(value.copy()?)),
-        None => Ok(None),
-    }
-}
-
 /// How a fault of an operator at a line ends the run. The error is want of memory.
 pub fn end_by(fault: OpFault, line: u32) -> Result<End, AllocError>
     ensures { IfOk result (λ end. EndsBy fault line end) }

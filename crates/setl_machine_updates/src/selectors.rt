@@ -1,7 +1,7 @@
 //! Selectors, and the part at one.
 
-ghost use Rattle.std.specs.Prelude.{◌≡◌, ◌∷◌, [], Some, IfOk, OnErr, map};
-ghost use Rattle.setl_value.specs.code.DatumOf.{datum, lent, part};
+ghost use Rattle.std.specs.Prelude.{◌≡◌, ◌∷◌, [], Some, OnErr, map};
+ghost use Rattle.setl_value.specs.code.DatumOf.{datum, part};
 ghost use Rattle.setl_operators_table.specs.declared.Operator.TheVariants.{Put, PutImages};
 ghost use Rattle.setl_operators_table.specs.Operators.{op_of, operand_count};
 ghost use Rattle.setl_model.specs.Places.{part_of, part_at_all, with_part_at};
@@ -12,8 +12,8 @@ ghost use Rattle.setl_machine_updates.specs.Updates.{Updates};
 use setl_operators::op_two;
 use setl_operators_collections::{put_images_in_place, put_in_place};
 use setl_operators_table::{OpFault, Operator};
-use setl_value::Value;
-use std::alloc::{AllocError, Global};
+use setl_value::{Value, copied_part, lend};
+use std::alloc::Global;
 
 /// A selector with its operand, where None is `om`.
 #[derive(Drop)]
@@ -57,7 +57,7 @@ pub(crate) fn part_at_all(
 {
     match at {
         [] => Ok(Part {
-            value: copied(whole)?,
+            value: copied_part(whole)?,
             left: turns,
         }),
         [first, inner @ ..] => {
@@ -83,26 +83,6 @@ pub(crate) fn apply(
         value: answer.value,
         left: turns.saturating_sub(answer.charged),
     })
-}
-
-// The same value, lent.
-fn lend(a: &Option<Value>) -> Option<&Value>
-    ensures { lent result ≡ part a.now }
-{
-    match a {
-        None => None,
-        Some(v) => Some(v),
-    }
-}
-
-// The same value, which shares its body.
-fn copied(a: &Option<Value>) -> Result<Option<Value>, AllocError>
-    ensures { IfOk result (λ copy. part copy ≡ part a.now) }
-{
-    match a {
-        None => Ok(None),
-        Some(v) => Ok(Some(v.copy()?)),
-    }
 }
 
 /// Puts a new part at a selector. After a fault the whole is as before.

@@ -13,12 +13,12 @@ ghost use Rattle.setl_value.specs.WellFormed.{PartIsWellFormed};
 ghost use Rattle.setl_value.specs.code.DatumOf.{datum, part};
 
 use setl_code_declared::declared_variables_fit;
-use setl_machine_control::{Declaration, copied};
+use setl_machine_control::Declaration;
 use setl_machine_updates::{Operator, Selector};
 use setl_modes::Mode;
 use setl_modes_fit::fits;
 use setl_modes_parts::{combines, images_mode, parts_decide, value_mode};
-use setl_value::Value;
+use setl_value::{Value, copied_part};
 use std::alloc::AllocError;
 
 /// Whether it is plain to see, of an integer or a truth value as of any other, that a variable takes it: where the variable isn't
@@ -138,7 +138,7 @@ pub(crate) fn kept_unless(
     if sure {
         Ok(None)
     } else {
-        Ok(Some(copied(whole)?))
+        Ok(Some(copied_part(whole)?))
     }
 }
 

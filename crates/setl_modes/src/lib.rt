@@ -5,8 +5,10 @@
 
 ghost use Rattle.setl_modes.specs.FitLaws.{FormsChangeNothing};
 
+mod copies;
 mod mode;
 
+pub use copies::{copied, copied_box};
 pub use mode::{Form, Mode, ModeTable, NamedMode};
 
 /// How a declared variable keeps its values has no part in which values it takes: those are the same without its

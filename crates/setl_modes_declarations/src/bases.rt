@@ -7,9 +7,9 @@ ghost use Rattle.setl_modes.specs.Declarations.{Bases as PlainBases};
 ghost use Rattle.setl_modes_declarations.specs.Declares.{named_modes};
 ghost use Rattle.setl_modes_declarations.specs.code.Elements.{Finds, number_from};
 
-use crate::copies::{copied_box, put_mode};
+use crate::copies::put_mode;
 use indexmap::IndexMap;
-use setl_modes::{Mode, NamedMode};
+use setl_modes::{Mode, NamedMode, copied_box};
 use setl_tree::{Boxed, Declared, Items, Text};
 use std::alloc::{AllocError, Global};
 

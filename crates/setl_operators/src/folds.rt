@@ -11,8 +11,8 @@ ghost use Rattle.setl_operators.specs.Combinations.{combination};
 
 use setl_operators_arithmetic::{both, either, greater, lesser, plus_in_place, times};
 use setl_operators_table::{Answer, OpFault};
-use setl_value::{SetBody, TupleBody, Value};
-use std::alloc::{AllocError, Global};
+use setl_value::{SetBody, TupleBody, Value, copied};
+use std::alloc::Global;
 
 /// How a fold combines two values.
 #[derive(Clone, Copy)]
@@ -148,14 +148,4 @@ fn sum(alloc: Global, a: Value, b: &Value) -> Result<Answer, OpFault>
         value: Some(a),
         charged,
     })
-}
-
-// A copy of a value, or `om`.
-fn copied(v: Option<&Value>) -> Result<Option<Value>, AllocError>
-    ensures { IfOk result (λ o. part o ≡ lent v.entry) }
-{
-    match v {
-        Some(v) => Ok(Some(v.copy()?)),
-        None => Ok(None),
-    }
 }

@@ -48,16 +48,6 @@ fn last(args: &mut Vec<Option<Value>>) -> Option<Value>
     }
 }
 
-/// The same operand, lent.
-pub(crate) fn lend(a: &Option<Value>) -> Option<&Value>
-    ensures { lent result ≡ part a.now }
-{
-    match a {
-        None => None,
-        Some(v) => Some(v),
-    }
-}
-
 /// The operand, a value. Om where it is `om`.
 pub(crate) fn one(a: Option<&Value>) -> Result<&Value, OpFault>
     ensures { MatchResult result (λ v. lent a.entry ≡ Some (datum v.now)) (λ e. (e ≡ OpFault.Om) × (lent a.entry ≡ None)) }

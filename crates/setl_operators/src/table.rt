@@ -11,7 +11,7 @@ ghost use Rattle.setl_text.specs.Texts.{whole_text};
 ghost use Rattle.setl_operators.specs.Readers.{takes_few, reads_two};
 
 use crate::folds::{Combination, fold};
-use crate::operands::{any_one, any_three, any_two, lend, one, own, three};
+use crate::operands::{any_one, any_three, any_two, one, own, three};
 use setl_operators_arithmetic::{
     absolute, at_most, below, difference, divide, equal, even, greater, is_atom, is_boolean, is_in,
     is_integer, is_map, is_set, is_string, is_tuple, lesser, minus, modulo, negate, negation,
@@ -26,7 +26,7 @@ use setl_operators_enumerations::{
 use setl_operators_table::answers::string;
 use setl_operators_table::{Answer, OpFault, Operator};
 use setl_text::text;
-use setl_value::{Text, Value};
+use setl_value::{Text, Value, lend};
 use std::alloc::Global;
 
 /// What an operator makes of its operands, with these turns left: a value or `om` with its charge, or why there is none.

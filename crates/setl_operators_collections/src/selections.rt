@@ -1,10 +1,9 @@
 //! The selections `f(x)`, `t(i)`, `f{x}`, `t(i..j)` and `t(i..)`.
 
-ghost use Rattle.std.specs.Prelude.{◌≡◌, IfOk};
-ghost use Rattle.std.specs.Option.{option_map};
+ghost use Rattle.std.specs.Prelude.{◌≡◌};
 ghost use Rattle.setl_value.specs.code.Body.{Members};
 ghost use Rattle.setl_value.specs.Datum.{int, set_of, text, tuple_of};
-ghost use Rattle.setl_value.specs.code.DatumOf.{datum, part};
+ghost use Rattle.setl_value.specs.code.DatumOf.{datum};
 ghost use Rattle.setl_operators_table.specs.Selections.{get, images_of, slice, tail};
 ghost use Rattle.setl_operators_table.specs.code.Answers.{Tells};
 
@@ -13,8 +12,8 @@ use setl_operators_table::answers::{set, string, tuple};
 use setl_operators_table::{Answer, OpFault};
 use setl_scalar::ScalarFault;
 use setl_tuple::TupleFault;
-use setl_value::{SetBody, Text, TupleBody, Value};
-use std::alloc::{AllocError, Global};
+use setl_value::{SetBody, Text, TupleBody, Value, copied};
+use std::alloc::Global;
 
 /// `whole(at)`: the only image of a map at a point, or the component of a tuple or the byte of a string at a place; `om`
 /// where there is none. Range for a place below 1.
@@ -48,16 +47,6 @@ fn component(t: &TupleBody, i: i128) -> Result<Answer, OpFault>
             charged: 0,
         }),
         Err(_) => Err(OpFault::Range),
-    }
-}
-
-// A copy of a component.
-fn copied(p: Option<&Value>) -> Result<Option<Value>, AllocError>
-    ensures { IfOk result (λ o. part o ≡ option_map (λ v. datum v.now) p.entry) }
-{
-    match p {
-        None => Ok(None),
-        Some(v) => Ok(Some(v.copy()?)),
     }
 }
 

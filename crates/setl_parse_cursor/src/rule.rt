@@ -162,19 +162,6 @@ pub fn with_many<T: Drop, R: Repeated>(
     Ok((head, parts))
 }
 
-/// Two values, the second in a box. An error is want of memory.
-pub fn boxed_second<A: Drop, B: Drop>(
-    alloc: Global,
-    first: A,
-    second: B,
-) -> Result<(A, Boxed<B>), Fault>
-    ensures ok { IfOk result (λ both. both ≡ (first, second)) }
-    ensures err { IfErr result (λ e. e ≡ Fault.Memory) }
-{
-    let second = Boxed::new(alloc, second)?;
-    Ok((first, second))
-}
-
 /// One or more parts in their order, with commas between. No comma stands behind the last.
 #[tactic(auto, unfolding(setl_parse_reading::specs::code::Reading::separated))]
 pub fn separated<R: Rule>(rule: &R, tokens: &mut Cursor<'_>) -> Result<Items<R::Out>, Fault>

@@ -2,7 +2,7 @@
 
 ghost use Rattle.std.specs.Prelude.{◌≡◌, ◌≤◌, ◌<◌, ◌+◌, ◌++◌, ◌∷◌, [], map, length, option_and_then, IfOk, OnOk, IsSome};
 ghost use Rattle.std.specs.List.{filter_map};
-ghost use Rattle.std.specs.Option.{option_map, option_to_list};
+ghost use Rattle.std.specs.Option.{option_to_list};
 ghost use Rattle.std.specs.FinSet as set;
 ghost use Rattle.setl_value.specs.Datum.{depth, set_of, tuple_of};
 ghost use Rattle.setl_value.specs.WellFormed.{IsTrimmed};
@@ -16,7 +16,7 @@ use crate::numbers::Numbers;
 use setl_base::{Base, Elt};
 use setl_map::gathered;
 use setl_rep_forms::laws;
-use setl_value::{SetBody, TupleBody, Value};
+use setl_value::{SetBody, TupleBody, Value, copied};
 use std::alloc::{AllocError, Global};
 
 /// The set of the members at these numbers, which is at most 500 deep. An error is want of memory.
@@ -99,15 +99,5 @@ fn part_of(base: &Base, e: &Option<Elt>) -> Result<Option<Value>, AllocError>
     match e {
         None => Ok(None),
         Some(e) => copied(base.value(*e)),
-    }
-}
-
-// A copy of what is lent.
-fn copied(v: Option<&Value>) -> Result<Option<Value>, AllocError>
-    ensures { IfOk result (λ p. part p ≡ option_map (λ x. datum x.now) v.entry) }
-{
-    match v {
-        None => Ok(None),
-        Some(v) => Ok(Some(v.copy()?)),
     }
 }

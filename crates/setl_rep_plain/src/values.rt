@@ -1,7 +1,6 @@
 //! The plain value of a form.
 
 ghost use Rattle.std.specs.Prelude.{◌≡◌, ◌≤◌, ◌++◌, map, IfOk, OnOk};
-ghost use Rattle.std.specs.Option.{option_map};
 ghost use Rattle.setl_value.specs.Datum.{depth, part_depth, set_of};
 ghost use Rattle.setl_value.specs.code.DatumOf.{datum, part};
 ghost use Rattle.setl_rep_bases.specs.Bases.{base_at, IsThere};
@@ -18,7 +17,7 @@ use setl_rep_based::{Numbers, member, set_of_numbers, tuple_of_handles};
 use setl_rep_bases::{BaseId, Bases};
 use setl_rep_forms::Held;
 use setl_sparse::SparseMap;
-use setl_value::{SetBody, Value};
+use setl_value::{SetBody, Value, copied};
 use std::alloc::{AllocError, Global};
 
 /// The plain value, or `om`, that a form stands for, which is at most 500 deep. An error is want of memory.
@@ -55,16 +54,6 @@ pub fn plain(alloc: Global, h: &Held, bases: &Bases) -> Result<Option<Value>, Al
             let pairs = sparse_pairs(alloc, *b, *many, entries, bases)?;
             Ok(Some(Value::Set(set_of_pairs(alloc, pairs)?)))
         }
-    }
-}
-
-// A copy of what is lent.
-fn copied(v: Option<&Value>) -> Result<Option<Value>, AllocError>
-    ensures { IfOk result (λ p. part p ≡ option_map (λ x. datum x.now) v.entry) }
-{
-    match v {
-        None => Ok(None),
-        Some(v) => Ok(Some(v.copy()?)),
     }
 }
 

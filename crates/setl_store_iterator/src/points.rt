@@ -12,8 +12,8 @@ ghost use Rattle.setl_store_iterator.specs.Points.{points};
 ghost use Rattle.setl_store_iterator.specs.Rests.{Stands};
 
 use crate::iterator::Item;
-use crate::rests::{MemberAt, after, copied, member_at};
-use setl_value::{SetBody, Value};
+use crate::rests::{MemberAt, after, member_at};
+use setl_value::{SetBody, Value, copied};
 use std::alloc::AllocError;
 
 /// Takes the first of the arguments that are left, with its image: `om` where it has several.

@@ -3,14 +3,14 @@
 ghost use Rattle.std.specs.Prelude.{◌≡◌, ◌∷◌, ◌+◌, ◌<◌, ◌==◌, [], true, false, drop, length, get_or, slice_get, Some, IfOk, OnOk, OnErr};
 ghost use Rattle.setl_value.specs.code.Body.{Members};
 ghost use Rattle.setl_value.specs.Datum.{text};
-ghost use Rattle.setl_value.specs.code.DatumOf.{datum, lent, part};
+ghost use Rattle.setl_value.specs.code.DatumOf.{datum};
 ghost use Rattle.setl_model.specs.Iterations.{members, singles, letters, place_points};
 ghost use Rattle.setl_store_iterator.specs.Items.{plain_item, is_pair};
 ghost use Rattle.setl_store_iterator.specs.Rests.{IsSound, Stands, left_of, pairs_of, state_of};
 
 use crate::integers::Steps;
 use crate::iterator::Item;
-use setl_value::{Cursor, SetBody, Text, TupleBody, Value};
+use setl_value::{Cursor, SetBody, Text, TupleBody, Value, copied};
 use std::alloc::{AllocError, Global};
 
 /// An index of a set, and the place of the member there.
@@ -179,14 +179,4 @@ fn letter(alloc: Global, t: &Text, at: usize) -> Result<Value, AllocError>
     t.learn();
     let bytes = t.bytes();
     Ok(Value::Text(Text::of(alloc, &bytes[at..at + 1])?))
-}
-
-/// An equal value, or `om`.
-pub(crate) fn copied(v: Option<&Value>) -> Result<Option<Value>, AllocError>
-    ensures { IfOk result (λ copy. part copy ≡ lent v.entry) }
-{
-    match v {
-        None => Ok(None),
-        Some(v) => Ok(Some(v.copy()?)),
-    }
 }

@@ -10,9 +10,8 @@ ghost use Rattle.setl_store_slots.specs.Updates.{AreGrown};
 ghost use Rattle.setl_value.specs.code.DatumOf.{datum};
 
 use crate::cells::Held;
-use crate::modes::copied;
 use crate::shared::Shared;
-use setl_modes::Mode;
+use setl_modes::{Mode, copied};
 use setl_rep_bases::Bases;
 use setl_rep_building::in_form;
 use setl_rep_entering::{base_marks, enter_places, take_back};

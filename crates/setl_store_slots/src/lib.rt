@@ -5,7 +5,6 @@
 mod cells;
 mod forming;
 mod handing;
-mod modes;
 mod shared;
 mod updating;
 

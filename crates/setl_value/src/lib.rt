@@ -20,12 +20,14 @@ mod counts;
 mod hashing;
 pub mod laws;
 mod order;
+mod parts;
 mod places;
 mod second;
 mod sets;
 mod string;
 mod tuples;
 
+pub use parts::{copied, copied_part, lend};
 pub use places::Cursor;
 pub use sets::MemberIter;
 use std::alloc::AllocError;
