@@ -1,11 +1,11 @@
 //! The common instructions, which are tried first, in one `match`.
 
-ghost use Rattle.std.specs.Prelude.{◌≡◌, ℕ, ◌<◌, ◌+◌, ◌^◌, length, map};
+ghost use Rattle.std.specs.Prelude.{◌≡◌, ℕ, length, map};
 ghost use Rattle.setl_code.specs.Code.{Operate, Alter, NextOr, CallBody, ReturnTop};
 ghost use Rattle.setl_code.specs.MayRun.{HasSlot, CanAlter, InstrFits};
 ghost use Rattle.setl_code.specs.Plain.{plain_code, plain_instr, plain_slot, plain_bracket, plain_alteration};
 ghost use Rattle.setl_operators_table.specs.Operators.{TakesOperands};
-ghost use Rattle.setl_store.specs.Standing.{variables};
+ghost use Rattle.setl_store.specs.Standing.{variables, CanGoOn};
 ghost use Rattle.setl_machine_control.specs.Control.{ControlState};
 ghost use Rattle.setl_machine_control.specs.Declaring.{Modes, modes_of, Serves, AreOfMain, IsBare};
 ghost use Rattle.setl_machine.specs.Working.{went_on, DoesOrLeaves};
@@ -35,7 +35,7 @@ pub(crate) fn at_once(
     store: &mut Store<'_>,
     control: &mut Control,
 ) -> Result<bool, End>
-    requires few { store.old.core.now.at + 1 < 2 ^ 64 }
+    requires few { CanGoOn store.old }
     requires fits { InstrFits (length store.old.core.globals) (length store.old.core.now.own) what.now }
     requires serves { Serves declarations.now store.old }
     ensures did { DoesOrLeaves (modes_of declarations.now) store.old control.old line (plain_instr (variables store.old.core) what.now) store.new control.new result }
@@ -76,7 +76,7 @@ fn others_at_once(
     store: &mut Store<'_>,
     control: &Control,
 ) -> Result<bool, End>
-    requires few { store.old.core.now.at + 1 < 2 ^ 64 }
+    requires few { CanGoOn store.old }
     ensures { (modes : Modes) → DoesOrLeaves modes store.old control.now line (plain_instr (variables store.old.core) what.now) store.new control.now result }
 {
     match what {
@@ -115,7 +115,7 @@ fn operate_at_once(
     store: &mut Store<'_>,
     control: &mut Control,
 ) -> Result<bool, End>
-    requires few { store.old.core.now.at + 1 < 2 ^ 64 }
+    requires few { CanGoOn store.old }
     requires fits { TakesOperands what count }
     ensures did { (modes : Modes) → DoesOrLeaves modes store.old control.old line (Operate what count) store.new control.new result }
     ensures reader { control.new.reader ≡ control.old.reader }
@@ -135,7 +135,7 @@ fn operate_else(
     store: &mut Store<'_>,
     control: &mut Control,
 ) -> Result<bool, End>
-    requires few { store.old.core.now.at + 1 < 2 ^ 64 }
+    requires few { CanGoOn store.old }
     requires fits { TakesOperands what count }
     ensures did { (modes : Modes) → DoesOrLeaves modes store.old control.old line (Operate what count) store.new control.new result }
     ensures reader { control.new.reader ≡ control.old.reader }
@@ -157,7 +157,7 @@ fn alter_at_once(
     store: &mut Store<'_>,
     control: &mut Control,
 ) -> Result<bool, End>
-    requires few { store.old.core.now.at + 1 < 2 ^ 64 }
+    requires few { CanGoOn store.old }
     requires there { HasSlot (length store.old.core.globals) (length store.old.core.now.own) slot }
     requires can { CanAlter what }
     requires serves { Serves declarations.now store.old }
@@ -175,7 +175,7 @@ fn call_at_once(
     store: &mut Store<'_>,
     control: &mut Control,
 ) -> Result<bool, End>
-    requires { store.old.core.now.at + 1 < 2 ^ 64 }
+    requires { CanGoOn store.old }
     ensures did { (modes : Modes) → AreOfMain modes → IsBare (plain_code store.old.code) → DoesOrLeaves modes store.old control.old line (CallBody body) store.new control.new result }
     ensures reader { control.new.reader ≡ control.old.reader }
 {
@@ -198,7 +198,7 @@ fn next_at_once(
     store: &mut Store<'_>,
     control: &mut Control,
 ) -> Result<bool, End>
-    requires few { store.old.core.now.at + 1 < 2 ^ 64 }
+    requires few { CanGoOn store.old }
     ensures did { (modes : Modes) → DoesOrLeaves modes store.old control.old line (NextOr to) store.new control.new result }
     ensures reader { control.new.reader ≡ control.old.reader }
 {

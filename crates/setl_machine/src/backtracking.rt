@@ -1,10 +1,10 @@
 //! `ok`, `fail` and `succeed`.
 
-ghost use Rattle.std.specs.Prelude.{◌≡◌, ℕ, ◌<◌, ◌+◌, ◌^◌, IfOk};
+ghost use Rattle.std.specs.Prelude.{◌≡◌, ℕ, IfOk};
 ghost use Rattle.setl_code.specs.CodeCore.{CodeCore};
 ghost use Rattle.setl_code.specs.Plain.{Variables, plain_instr};
 ghost use Rattle.setl_code.specs.Code.{Code};
-ghost use Rattle.setl_store.specs.Standing.{variables};
+ghost use Rattle.setl_store.specs.Standing.{variables, CanGoOn};
 ghost use Rattle.setl_machine_control.specs.Working.{Does};
 ghost use Rattle.setl_machine.specs.Families.{family_of};
 ghost use Rattle.setl_machine.specs.Hearing.{Tells};
@@ -25,7 +25,7 @@ pub(crate) fn do_backtracking(
     control: &mut Control,
 ) -> Result<End, AllocError>
     requires is { family_of what.now ≡ Family.Backtracking }
-    requires few { store.old.core.now.at + 1 < 2 ^ 64 }
+    requires few { CanGoOn store.old }
     ensures did { IfOk result (λ end. Does store.old control.old line (plain_instr (variables store.old.core) what.now) store.new control.new end) }
     ensures reader { control.new.reader ≡ control.old.reader }
 {

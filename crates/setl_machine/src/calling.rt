@@ -1,11 +1,11 @@
 //! Calls and returns.
 
-ghost use Rattle.std.specs.Prelude.{◌≡◌, ℕ, ◌<◌, ◌+◌, ◌^◌, length, map, slice_get, Some, None, IfSome, IfNone, IfOk};
+ghost use Rattle.std.specs.Prelude.{◌≡◌, ℕ, ◌<◌, length, map, slice_get, Some, None, IfSome, IfNone, IfOk};
 ghost use Rattle.std.specs.Option.{option_map};
 ghost use Rattle.setl_code.specs.Code.{CallBody, ReturnTop};
 ghost use Rattle.setl_code.specs.MayRun.{InstrFits};
 ghost use Rattle.setl_code.specs.Plain.{plain_code, plain_instr};
-ghost use Rattle.setl_store.specs.Standing.{variables};
+ghost use Rattle.setl_store.specs.Standing.{variables, CanGoOn};
 ghost use Rattle.setl_machine_control.specs.Declaring.{Modes, modes_of, Serves, AreOfMain, IsBare};
 ghost use Rattle.setl_value.specs.code.DatumOf.{part};
 ghost use Rattle.setl_machine_control.specs.Working.{Works, DoesBy};
@@ -33,7 +33,7 @@ pub(crate) fn do_call(
     control: &mut Control,
 ) -> Result<End, AllocError>
     requires is { family_of what.now ≡ Family.Calls }
-    requires few { store.old.core.now.at + 1 < 2 ^ 64 }
+    requires few { CanGoOn store.old }
     requires serves { Serves declarations.now store.old }
     ensures did { IfOk result (λ end. DoesBy (modes_of declarations.now) store.old control.old line (plain_instr (variables store.old.core) what.now) store.new control.new end) }
     ensures reader { control.new.reader ≡ control.old.reader }
@@ -54,7 +54,7 @@ pub(crate) fn calls_telling(
     control: &mut Control,
 ) -> Result<Vec<Event>, End>
     requires is { family_of what.now ≡ Family.Calls }
-    requires few { store.old.core.now.at + 1 < 2 ^ 64 }
+    requires few { CanGoOn store.old }
     requires fits { InstrFits (length store.old.core.globals) (length store.old.core.now.own) what.now }
     requires serves { Serves declarations.now store.old }
     ensures did { DoesTelling (modes_of declarations.now) store.old control.old line (plain_instr (variables store.old.core) what.now) store.new control.new result }
@@ -76,7 +76,7 @@ pub(crate) fn call(
     store: &mut Store<'_>,
     control: &mut Control,
 ) -> Result<End, AllocError>
-    requires { store.old.core.now.at + 1 < 2 ^ 64 }
+    requires { CanGoOn store.old }
     ensures did { (modes : Modes) → AreOfMain modes → IsBare (plain_code store.old.code) → IfOk result (λ end. DoesBy modes store.old control.old line (CallBody body) store.new control.new end) }
     ensures reader { control.new.reader ≡ control.old.reader }
 {
@@ -109,7 +109,7 @@ fn begin(
 ) -> Result<End, AllocError>
     requires there { body < length store.old.code.bodies }
     requires each { IfSome (slice_get store.old.code.bodies body) (λ b. length values.items ≡ length b.parameters) }
-    requires few { store.old.core.now.at + 1 < 2 ^ 64 }
+    requires few { CanGoOn store.old }
     ensures did { IfOk result (λ end. Begins body (map part values.items) store.old control.old store.new control.new end) }
     ensures reader { control.new.reader ≡ control.old.reader }
 {
@@ -163,7 +163,7 @@ fn call_telling(
     store: &mut Store<'_>,
     control: &mut Control,
 ) -> Result<Vec<Event>, End>
-    requires few { store.old.core.now.at + 1 < 2 ^ 64 }
+    requires few { CanGoOn store.old }
     requires serves { Serves declarations.now store.old }
     ensures did { DoesTelling (modes_of declarations.now) store.old control.old line (CallBody body) store.new control.new result }
     ensures reader { control.new.reader ≡ control.old.reader }

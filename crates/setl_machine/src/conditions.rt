@@ -1,8 +1,8 @@
 //! Conditions, jumps, what is done to the top operand, and the end of the run.
 
-ghost use Rattle.std.specs.Prelude.{◌≡◌, ℕ, ◌<◌, ◌+◌, ◌^◌, IfOk, IsOk};
+ghost use Rattle.std.specs.Prelude.{◌≡◌, ℕ, IfOk, IsOk};
 ghost use Rattle.setl_code.specs.Plain.{plain_instr};
-ghost use Rattle.setl_store.specs.Standing.{variables};
+ghost use Rattle.setl_store.specs.Standing.{variables, CanGoOn};
 ghost use Rattle.setl_code.specs.Code.{Decides, TestBool, Unless, Jump, DropTop, DupTop};
 ghost use Rattle.setl_machine_control.specs.Working.{Works};
 ghost use Rattle.setl_machine.specs.Working.{Judges, decided};
@@ -23,7 +23,7 @@ pub(crate) fn do_condition(
     store: &mut Store<'_>,
 ) -> Result<End, AllocError>
     requires is { family_of what.now ≡ Family.Conditions }
-    requires few { store.old.core.now.at + 1 < 2 ^ 64 }
+    requires few { CanGoOn store.old }
     ensures { IfOk result (λ end. Works store.old line (plain_instr (variables store.old.core) what.now) store.new end) }
 {
     match what {
@@ -46,7 +46,7 @@ pub(crate) fn decide(
     line: u32,
     store: &mut Store<'_>,
 ) -> Result<End, AllocError>
-    requires { store.old.core.now.at + 1 < 2 ^ 64 }
+    requires { CanGoOn store.old }
     ensures { IfOk result (λ end. Works store.old line (Decides what to) store.new end) }
 {
     let truth = match truth_on_top(store, line) {
@@ -78,7 +78,7 @@ fn answer(what: Connective, left: bool) -> Option<bool>
 /// Stops the run unless a truth value is on top.
 #[inline(always)]
 pub(crate) fn test(line: u32, store: &mut Store<'_>) -> Result<End, AllocError>
-    requires { store.old.core.now.at + 1 < 2 ^ 64 }
+    requires { CanGoOn store.old }
     ensures did { IfOk result (λ end. Works store.old line TestBool store.new end) }
     ensures sure { IsOk result }
 {
@@ -94,7 +94,7 @@ pub(crate) fn test(line: u32, store: &mut Store<'_>) -> Result<End, AllocError>
 /// Pops a truth value, and goes to the target if it is false.
 #[inline(always)]
 pub(crate) fn unless(to: u32, line: u32, store: &mut Store<'_>) -> Result<End, AllocError>
-    requires { store.old.core.now.at + 1 < 2 ^ 64 }
+    requires { CanGoOn store.old }
     ensures { IfOk result (λ end. Works store.old line (Unless to) store.new end) }
 {
     let truth = match truth_on_top(store, line) {
@@ -123,7 +123,7 @@ pub(crate) fn jump(to: u32, store: &mut Store<'_>) -> Result<End, AllocError>
 /// Pops the top.
 #[inline(never)]
 pub(crate) fn discard(store: &mut Store<'_>) -> Result<End, AllocError>
-    requires { store.old.core.now.at + 1 < 2 ^ 64 }
+    requires { CanGoOn store.old }
     ensures { (line : ℕ) → IfOk result (λ end. Works store.old line DropTop store.new end) }
 {
     let Some(_value) = pop_top(store)? else {
@@ -136,7 +136,7 @@ pub(crate) fn discard(store: &mut Store<'_>) -> Result<End, AllocError>
 /// Pushes the top again.
 #[inline(never)]
 pub(crate) fn duplicate(store: &mut Store<'_>) -> Result<End, AllocError>
-    requires { store.old.core.now.at + 1 < 2 ^ 64 }
+    requires { CanGoOn store.old }
     ensures { (line : ℕ) → IfOk result (λ end. Works store.old line DupTop store.new end) }
 {
     let Some(value) = store.one() else {
@@ -150,7 +150,7 @@ pub(crate) fn duplicate(store: &mut Store<'_>) -> Result<End, AllocError>
 
 /// The same, whatever the top is.
 fn duplicate_any(store: &mut Store<'_>) -> Result<End, AllocError>
-    requires { store.old.core.now.at + 1 < 2 ^ 64 }
+    requires { CanGoOn store.old }
     ensures { (line : ℕ) → IfOk result (λ end. Works store.old line DupTop store.new end) }
 {
     let Some(value) = pop_top(store)? else {

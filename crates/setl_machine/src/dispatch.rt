@@ -1,9 +1,9 @@
 //! Instructions that neither read nor write, by their families.
 
-ghost use Rattle.std.specs.Prelude.{◌≡◌, ◌<◌, ◌+◌, ◌^◌, ℕ, List, length, IfOk};
+ghost use Rattle.std.specs.Prelude.{◌≡◌, ℕ, List, length, IfOk};
 ghost use Rattle.setl_code.specs.MayRun.{InstrFits};
 ghost use Rattle.setl_code.specs.Plain.{plain_code, plain_instr};
-ghost use Rattle.setl_store.specs.Standing.{variables};
+ghost use Rattle.setl_store.specs.Standing.{variables, CanGoOn};
 ghost use Rattle.setl_machine_control.specs.Control.{stood_for};
 ghost use Rattle.setl_machine_control.specs.Answers.{next_of, Quiet};
 ghost use Rattle.setl_machine_control.specs.Declaring.{modes_of, Serves};
@@ -36,7 +36,7 @@ pub(crate) fn quiet_step(
     control: &mut Control,
 ) -> End
     requires quiet { ¬ (family_of what.now ≡ Family.Outside) }
-    requires few { store.old.core.now.at + 1 < 2 ^ 64 }
+    requires few { CanGoOn store.old }
     requires fits { InstrFits (length store.old.core.globals) (length store.old.core.now.own) what.now }
     requires serves { Serves declarations.now store.old }
     ensures did { (rest : List ℕ) → Quiet (modes_of declarations.now) (next_of (modes_of declarations.now) (plain_code store.old.code) line (plain_instr (variables store.old.core) what.now) (stood_for store.old.core control.old rest)) (stood_for store.new.core control.new rest) result }
@@ -58,7 +58,7 @@ fn do_quiet(
     control: &mut Control,
 ) -> Result<End, AllocError>
     requires quiet { ¬ (family_of what.now ≡ Family.Outside) }
-    requires few { store.old.core.now.at + 1 < 2 ^ 64 }
+    requires few { CanGoOn store.old }
     requires fits { InstrFits (length store.old.core.globals) (length store.old.core.now.own) what.now }
     requires serves { Serves declarations.now store.old }
     ensures did { IfOk result (λ end. DoesBy (modes_of declarations.now) store.old control.old line (plain_instr (variables store.old.core) what.now) store.new control.new end) }

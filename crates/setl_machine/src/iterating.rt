@@ -1,10 +1,10 @@
 //! Iterators, collections that are being built, tuples that are taken apart, and rounds.
 
-ghost use Rattle.std.specs.Prelude.{◌≡◌, ℕ, ◌<◌, ◌+◌, ◌^◌, IfOk, IsOk, OnOk};
+ghost use Rattle.std.specs.Prelude.{◌≡◌, ℕ, IfOk, IsOk, OnOk};
 ghost use Rattle.setl_code.specs.Code.{PartsOf, BeginOver, NextOr, BeginOf, AddBelow, LeaveAll, PayRound};
 ghost use Rattle.setl_code.specs.Machine.{first_parts};
 ghost use Rattle.setl_code.specs.Plain.{plain_begin, plain_instr};
-ghost use Rattle.setl_store.specs.Standing.{over, variables};
+ghost use Rattle.setl_store.specs.Standing.{over, variables, CanGoOn};
 ghost use Rattle.setl_value.specs.code.DatumOf.{part};
 ghost use Rattle.setl_machine_control.specs.Working.{Works, Does};
 ghost use Rattle.setl_machine.specs.Working.{component_of};
@@ -27,7 +27,7 @@ pub(crate) fn do_iteration(
     control: &mut Control,
 ) -> Result<End, AllocError>
     requires is { family_of what.now ≡ Family.Iteration }
-    requires few { store.old.core.now.at + 1 < 2 ^ 64 }
+    requires few { CanGoOn store.old }
     ensures did { IfOk result (λ end. Does store.old control.old line (plain_instr (variables store.old.core) what.now) store.new control.new end) }
     ensures reader { control.new.reader ≡ control.old.reader }
 {
@@ -46,7 +46,7 @@ pub(crate) fn do_iteration(
 /// Pops a tuple and pushes its first components, so many, the first one on top.
 #[inline(never)]
 fn take_apart(count: u32, line: u32, store: &mut Store<'_>) -> Result<End, AllocError>
-    requires { store.old.core.now.at + 1 < 2 ^ 64 }
+    requires { CanGoOn store.old }
     ensures { IfOk result (λ end. Works store.old line (PartsOf count) store.new end) }
 {
     match pop_top(store)? {
@@ -90,7 +90,7 @@ pub(crate) fn begin_over(
     line: u32,
     store: &mut Store<'_>,
 ) -> Result<End, AllocError>
-    requires { store.old.core.now.at + 1 < 2 ^ 64 }
+    requires { CanGoOn store.old }
     ensures { IfOk result (λ end. Works store.old line (BeginOver (plain_begin how) count) store.new end) }
 {
     let Some(sources) = store.pop_values(count as usize)? else {
@@ -109,7 +109,7 @@ pub(crate) fn begin_over(
 /// At the end of the iterator on top drops it and goes to the target; else takes one turn and pushes the next item.
 #[inline(never)]
 pub(crate) fn next(to: u32, store: &mut Store<'_>, control: &mut Control) -> Result<End, AllocError>
-    requires { store.old.core.now.at + 1 < 2 ^ 64 }
+    requires { CanGoOn store.old }
     ensures did { (line : ℕ) → IfOk result (λ end. Does store.old control.old line (NextOr to) store.new control.new end) }
     ensures reader { control.new.reader ≡ control.old.reader }
 {
@@ -137,7 +137,7 @@ pub(crate) fn next(to: u32, store: &mut Store<'_>, control: &mut Control) -> Res
 /// Pushes an empty collection.
 #[inline(never)]
 pub(crate) fn collect(what: Collection, store: &mut Store<'_>) -> Result<End, AllocError>
-    requires { store.old.core.now.at + 1 < 2 ^ 64 }
+    requires { CanGoOn store.old }
     ensures { (line : ℕ) → IfOk result (λ end. Works store.old line (BeginOf what) store.new end) }
 {
     store.push_collection(what)?;
@@ -148,7 +148,7 @@ pub(crate) fn collect(what: Collection, store: &mut Store<'_>) -> Result<End, Al
 /// Pops a value, and adds it to the collection below so many iterators.
 #[inline(never)]
 pub(crate) fn add(count: u32, line: u32, store: &mut Store<'_>) -> Result<End, AllocError>
-    requires { store.old.core.now.at + 1 < 2 ^ 64 }
+    requires { CanGoOn store.old }
     ensures { IfOk result (λ end. Works store.old line (AddBelow count) store.new end) }
 {
     let Some(value) = pop_top(store)? else {
@@ -167,7 +167,7 @@ pub(crate) fn add(count: u32, line: u32, store: &mut Store<'_>) -> Result<End, A
 /// Drops so many iterators.
 #[inline(never)]
 pub(crate) fn leave(count: u32, store: &mut Store<'_>) -> Result<End, AllocError>
-    requires { store.old.core.now.at + 1 < 2 ^ 64 }
+    requires { CanGoOn store.old }
     ensures { (line : ℕ) → IfOk result (λ end. Works store.old line (LeaveAll count) store.new end) }
 {
     if !store.drop_iterators(count as usize)? {
@@ -180,7 +180,7 @@ pub(crate) fn leave(count: u32, store: &mut Store<'_>) -> Result<End, AllocError
 /// Takes one turn.
 #[inline(always)]
 pub(crate) fn round(store: &mut Store<'_>, control: &mut Control) -> Result<End, AllocError>
-    requires { store.old.core.now.at + 1 < 2 ^ 64 }
+    requires { CanGoOn store.old }
     ensures did { (line : ℕ) → IfOk result (λ end. Does store.old control.old line PayRound store.new control.new end) }
     ensures reader { control.new.reader ≡ control.old.reader }
     ensures sure { IsOk result }

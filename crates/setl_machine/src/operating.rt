@@ -1,13 +1,13 @@
 //! Operators on operands, and those without any: a new atom, and whether a read met the end of the input.
 
-ghost use Rattle.std.specs.Prelude.{◌≡◌, ℕ, ◌<◌, ◌+◌, ◌^◌, length, Some, IfOk};
+ghost use Rattle.std.specs.Prelude.{◌≡◌, ℕ, length, Some, IfOk};
 ghost use Rattle.setl_code.specs.Code.{Operate, PushAtom, PushEof};
 ghost use Rattle.setl_code.specs.MayRun.{InstrFits};
 ghost use Rattle.setl_code.specs.Plain.{plain_instr};
 ghost use Rattle.setl_operators_table.specs.Operators.{operand_count, TakesOperands};
 ghost use Rattle.setl_value.specs.code.DatumOf.{part};
 ghost use Rattle.setl_store.specs.Operands.{IsPlainTop};
-ghost use Rattle.setl_store.specs.Standing.{variables};
+ghost use Rattle.setl_store.specs.Standing.{variables, CanGoOn};
 ghost use Rattle.setl_machine.specs.Operating.{AreTwo, PutsForTwo, PutsForOne};
 ghost use Rattle.setl_machine_control.specs.Working.{Does};
 ghost use Rattle.setl_machine.specs.Families.{family_of};
@@ -30,7 +30,7 @@ pub(crate) fn do_operator(
     control: &mut Control,
 ) -> Result<End, AllocError>
     requires is { family_of what.now ≡ Family.Operators }
-    requires few { store.old.core.now.at + 1 < 2 ^ 64 }
+    requires few { CanGoOn store.old }
     requires fits { InstrFits (length store.old.core.globals) (length store.old.core.now.own) what.now }
     ensures did { IfOk result (λ end. Does store.old control.old line (plain_instr (variables store.old.core) what.now) store.new control.new end) }
     ensures reader { control.new.reader ≡ control.old.reader }
@@ -51,7 +51,7 @@ fn operate(
     store: &mut Store<'_>,
     control: &mut Control,
 ) -> Result<End, AllocError>
-    requires few { store.old.core.now.at + 1 < 2 ^ 64 }
+    requires few { CanGoOn store.old }
     requires fits { TakesOperands what count }
     ensures did { IfOk result (λ end. Does store.old control.old line (Operate what count) store.new control.new end) }
     ensures reader { control.new.reader ≡ control.old.reader }
@@ -65,7 +65,7 @@ fn operate(
 /// Puts a value in the place of the two on top.
 #[inline(always)]
 pub(crate) fn put_for_two(value: Option<Value>, store: &mut Store<'_>) -> Result<End, AllocError>
-    requires few { store.old.core.now.at + 1 < 2 ^ 64 }
+    requires few { CanGoOn store.old }
     requires two { AreTwo store.old.core.now.operands }
     ensures { IfOk result (λ end. PutsForTwo store.old (part value) store.new end) }
 {
@@ -78,7 +78,7 @@ pub(crate) fn put_for_two(value: Option<Value>, store: &mut Store<'_>) -> Result
 /// Puts a value in the place of the one on top.
 #[inline(always)]
 pub(crate) fn put_for_one(value: Option<Value>, store: &mut Store<'_>) -> Result<End, AllocError>
-    requires few { store.old.core.now.at + 1 < 2 ^ 64 }
+    requires few { CanGoOn store.old }
     requires one { IsPlainTop store.old.core.now.operands }
     ensures { IfOk result (λ end. PutsForOne store.old (part value) store.new end) }
 {
@@ -96,7 +96,7 @@ pub(crate) fn operate_any(
     store: &mut Store<'_>,
     control: &mut Control,
 ) -> Result<End, AllocError>
-    requires few { store.old.core.now.at + 1 < 2 ^ 64 }
+    requires few { CanGoOn store.old }
     requires fits { TakesOperands what count }
     ensures did { IfOk result (λ end. Does store.old control.old line (Operate what count) store.new control.new end) }
     ensures reader { control.new.reader ≡ control.old.reader }
@@ -124,7 +124,7 @@ fn operate_on_one(
     store: &mut Store<'_>,
     control: &mut Control,
 ) -> Result<End, AllocError>
-    requires few { store.old.core.now.at + 1 < 2 ^ 64 }
+    requires few { CanGoOn store.old }
     requires fits { TakesOperands what count }
     requires one { operand_count what ≡ Some 1 }
     ensures did { IfOk result (λ end. Does store.old control.old line (Operate what count) store.new control.new end) }
@@ -150,7 +150,7 @@ fn operate_on_two(
     store: &mut Store<'_>,
     control: &mut Control,
 ) -> Result<End, AllocError>
-    requires few { store.old.core.now.at + 1 < 2 ^ 64 }
+    requires few { CanGoOn store.old }
     requires fits { TakesOperands what count }
     requires two { operand_count what ≡ Some 2 }
     ensures did { IfOk result (λ end. Does store.old control.old line (Operate what count) store.new control.new end) }
@@ -177,7 +177,7 @@ fn operate_on_one_held(
     store: &mut Store<'_>,
     control: &mut Control,
 ) -> Result<End, AllocError>
-    requires few { store.old.core.now.at + 1 < 2 ^ 64 }
+    requires few { CanGoOn store.old }
     requires fits { TakesOperands what count }
     requires one { operand_count what ≡ Some 1 }
     ensures did { IfOk result (λ end. Does store.old control.old line (Operate what count) store.new control.new end) }
@@ -201,7 +201,7 @@ fn operate_on_two_held(
     store: &mut Store<'_>,
     control: &mut Control,
 ) -> Result<End, AllocError>
-    requires few { store.old.core.now.at + 1 < 2 ^ 64 }
+    requires few { CanGoOn store.old }
     requires fits { TakesOperands what count }
     requires two { operand_count what ≡ Some 2 }
     ensures did { IfOk result (λ end. Does store.old control.old line (Operate what count) store.new control.new end) }
@@ -224,7 +224,7 @@ fn operate_listed(
     store: &mut Store<'_>,
     control: &mut Control,
 ) -> Result<End, AllocError>
-    requires few { store.old.core.now.at + 1 < 2 ^ 64 }
+    requires few { CanGoOn store.old }
     requires fits { TakesOperands what count }
     ensures did { IfOk result (λ end. Does store.old control.old line (Operate what count) store.new control.new end) }
     ensures reader { control.new.reader ≡ control.old.reader }
@@ -246,7 +246,7 @@ fn operate_listed(
 /// Pushes the next atom, for one turn.
 #[inline(never)]
 fn push_atom(store: &mut Store<'_>, control: &mut Control) -> Result<End, AllocError>
-    requires { store.old.core.now.at + 1 < 2 ^ 64 }
+    requires { CanGoOn store.old }
     ensures did { (line : ℕ) → IfOk result (λ end. Does store.old control.old line PushAtom store.new control.new end) }
     ensures reader { control.new.reader ≡ control.old.reader }
 {
@@ -261,7 +261,7 @@ fn push_atom(store: &mut Store<'_>, control: &mut Control) -> Result<End, AllocE
 /// Pushes whether a read met the end of the input.
 #[inline(never)]
 fn push_eof(store: &mut Store<'_>, control: &Control) -> Result<End, AllocError>
-    requires { store.old.core.now.at + 1 < 2 ^ 64 }
+    requires { CanGoOn store.old }
     ensures { (line : ℕ) → IfOk result (λ end. Does store.old control.now line PushEof store.new control.now end) }
 {
     store.push(Some(Value::Bool(control.eof())))?;

@@ -1,9 +1,9 @@
 //! `print` and `read`.
 
-ghost use Rattle.std.specs.Prelude.{◌≡◌, ◌<◌, ◌+◌, ◌^◌, ◌∷◌, [], List, ℕ, suc, None, map, IfOk, OnOk};
+ghost use Rattle.std.specs.Prelude.{◌≡◌, ◌∷◌, [], List, ℕ, suc, None, map, IfOk, OnOk};
 ghost use Rattle.setl_value.specs.code.DatumOf.{part};
 ghost use Rattle.setl_code.specs.CodeCore.{Result as Holds};
-ghost use Rattle.setl_store.specs.Standing.{at_place, over};
+ghost use Rattle.setl_store.specs.Standing.{at_place, over, CanGoOn};
 ghost use Rattle.setl_code.specs.Code.{PrintTop, ReadOne};
 ghost use Rattle.setl_code.specs.Plain.{plain_code};
 ghost use Rattle.setl_model.specs.World.{World};
@@ -35,7 +35,7 @@ pub(crate) fn print<O: Sink>(
     control: &Control,
     out: &mut O,
 ) -> End
-    requires { store.old.core.now.at + 1 < 2 ^ 64 }
+    requires { CanGoOn store.old }
     ensures did { (modes : Modes) (line : ℕ) (w : World) (n : ℕ) → Steps modes (next_of modes (plain_code store.old.code) line (PrintTop count) (in_world w store.old.core)) (seen (O.held out.old) (O.faults out.old) n) (seen (O.held out.new) (O.faults out.new) n) (in_world w store.new.core) result }
     ensures code { result ≡ End.Paused → store.new.code ≡ store.old.code }
     ensures no_read { result ≡ End.ReadFault → ⊥ }
@@ -60,7 +60,7 @@ fn take_line(count: u32, store: &mut Store<'_>, alloc: Global) -> Result<Vec<u8>
 /// Writes a line as one piece, and goes on.
 #[inline]
 fn write_line<O: Sink>(line: &[u8], store: &mut Store<'_>, out: &mut O) -> End
-    requires { store.old.core.now.at + 1 < 2 ^ 64 }
+    requires { CanGoOn store.old }
     ensures { (n : ℕ) → WritesLine line.now store.old (seen (O.held out.old) (O.faults out.old) n) store.new (seen (O.held out.new) (O.faults out.new) n) result }
 {
     match write_all(out, line) {
@@ -80,7 +80,7 @@ pub(crate) fn read<I: Source>(
     control: &mut Control,
     input: &mut I,
 ) -> End
-    requires few { store.old.core.now.at + 1 < 2 ^ 64 }
+    requires few { CanGoOn store.old }
     requires no_fault { control.old.reader.fault ≡ None }
     ensures did { (modes : Modes) (held : _) (n : ℕ) (rest' : List ℕ) → IsRest (ahead control.new.reader.ended (I.left input.new)) rest' →
         (rest : List ℕ) × IsRest (ahead control.old.reader.ended (I.left input.old)) rest
@@ -102,7 +102,7 @@ pub(crate) fn read<I: Source>(
 
 /// Pushes what was read, and goes on.
 fn push_read(value: Option<Value>, store: &mut Store<'_>) -> Result<(), AllocError>
-    requires { store.old.core.now.at + 1 < 2 ^ 64 }
+    requires { CanGoOn store.old }
     ensures { OnOk result (store.new ≡ record store.old { core = at_place (suc store.old.core.now.at) (over (Holds (part value) ∷ store.old.core.now.operands) store.old.core) }) }
 {
     store.push(value)?;
@@ -130,7 +130,7 @@ pub(crate) fn print_telling<O: Sink>(
     control: &Control,
     out: &mut O,
 ) -> Result<Vec<Event>, End>
-    requires { store.old.core.now.at + 1 < 2 ^ 64 }
+    requires { CanGoOn store.old }
     ensures did { (modes : Modes) (line : ℕ) (w : World) (n : ℕ) → Steps modes (next_of modes (plain_code store.old.code) line (PrintTop count) (in_world w store.old.core)) (seen (O.held out.old) (O.faults out.old) n) (seen (O.held out.new) (O.faults out.new) n) (in_world w store.new.core) (ended result) }
     ensures tells { (line : ℕ) → TellsOf store.old control.now line (PrintTop count) store.new control.now result }
     ensures no_read { ended result ≡ End.ReadFault → ⊥ }

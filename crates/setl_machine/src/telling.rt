@@ -1,13 +1,13 @@
 //! Steps that give the events that they tell.
 
-ghost use Rattle.std.specs.Prelude.{◌≡◌, ◌⊎◌, ◌<◌, ◌+◌, ◌^◌, ◌∷◌, [], ℕ, List, None, length, IfOk, IfErr, OnOk};
+ghost use Rattle.std.specs.Prelude.{◌≡◌, ◌⊎◌, ◌∷◌, [], ℕ, List, None, length, IfOk, IfErr, OnOk};
 ghost use Rattle.setl_model_runs.specs.Run.{step};
 ghost use Rattle.setl_code.specs.CodeCore.{CodeCore};
 ghost use Rattle.setl_code.specs.Machine.{machine};
 ghost use Rattle.setl_code.specs.MayRun.{InstrFits};
 ghost use Rattle.setl_code.specs.Plain.{Variables, plain_code, plain_instr};
 ghost use Rattle.setl_text.specs.code.Reads.{ahead, StaysHonest, TakesOff};
-ghost use Rattle.setl_store.specs.Standing.{variables};
+ghost use Rattle.setl_store.specs.Standing.{variables, CanGoOn};
 ghost use Rattle.setl_machine_control.specs.Control.{stood_for, IsRest};
 ghost use Rattle.setl_machine_control.specs.Declaring.{modes_of, tested, Serves};
 ghost use Rattle.setl_machine.specs.Hearing.{ended, Tells, DoesTelling, TellsInHand};
@@ -81,7 +81,7 @@ fn quiet_telling(
     control: &mut Control,
 ) -> Result<Vec<Event>, End>
     requires quiet { ¬ (family_of what.now ≡ Family.Outside) }
-    requires few { store.old.core.now.at + 1 < 2 ^ 64 }
+    requires few { CanGoOn store.old }
     requires fits { InstrFits (length store.old.core.globals) (length store.old.core.now.own) what.now }
     requires serves { Serves declarations.now store.old }
     ensures did { DoesTelling (modes_of declarations.now) store.old control.old line (plain_instr (variables store.old.core) what.now) store.new control.new result }
@@ -104,7 +104,7 @@ pub(crate) fn alone_telling(
 ) -> Result<Vec<Event>, End>
     requires quiet { ¬ (family_of what.now ≡ Family.Outside) }
     requires alone { IsToldAlone what.now }
-    requires few { store.old.core.now.at + 1 < 2 ^ 64 }
+    requires few { CanGoOn store.old }
     requires fits { InstrFits (length store.old.core.globals) (length store.old.core.now.own) what.now }
     requires serves { Serves declarations.now store.old }
     ensures did { DoesTelling (modes_of declarations.now) store.old control.old line (plain_instr (variables store.old.core) what.now) store.new control.new result }

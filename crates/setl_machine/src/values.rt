@@ -1,8 +1,8 @@
 //! Constants that are pushed.
 
-ghost use Rattle.std.specs.Prelude.{◌≡◌, ℕ, ◌<◌, ◌+◌, ◌^◌, IfOk};
+ghost use Rattle.std.specs.Prelude.{◌≡◌, ℕ, IfOk};
 ghost use Rattle.setl_code.specs.Plain.{plain_instr};
-ghost use Rattle.setl_store.specs.Standing.{variables};
+ghost use Rattle.setl_store.specs.Standing.{variables, CanGoOn};
 ghost use Rattle.setl_machine_control.specs.Working.{Works};
 ghost use Rattle.setl_machine.specs.Families.{family_of};
 ghost use Rattle.setl_machine.specs.declared.families.Family.{Family};
@@ -21,7 +21,7 @@ pub(crate) fn do_value(
     alloc: Global,
 ) -> Result<End, AllocError>
     requires is { family_of what.now ≡ Family.Values }
-    requires few { store.old.core.now.at + 1 < 2 ^ 64 }
+    requires few { CanGoOn store.old }
     ensures { (line : ℕ) → IfOk result (λ end. Works store.old line (plain_instr (variables store.old.core) what.now) store.new end) }
 {
     match what {

@@ -1,6 +1,6 @@
 //! Loads, stores and updates of variables.
 
-ghost use Rattle.std.specs.Prelude.{◌≡◌, ◌<◌, ◌+◌, ◌^◌, length, map, IfOk};
+ghost use Rattle.std.specs.Prelude.{◌≡◌, length, map, IfOk};
 ghost use Rattle.setl_code.specs.Code.{StoreIn, Alter};
 ghost use Rattle.setl_code.specs.CodeCore.{held};
 ghost use Rattle.setl_code.specs.MayRun.{HasSlot, CanAlter, InstrFits};
@@ -9,7 +9,7 @@ ghost use Rattle.setl_value.specs.code.DatumOf.{part};
 ghost use Rattle.setl_watch.specs.Notices.{noticed};
 ghost use Rattle.setl_watch.specs.code.NoticeOf.{notice_of};
 ghost use Rattle.setl_code_events.specs.Told.{value_held, store_told};
-ghost use Rattle.setl_store.specs.Standing.{variables, variables_in};
+ghost use Rattle.setl_store.specs.Standing.{variables, variables_in, CanGoOn};
 ghost use Rattle.setl_machine_control.specs.Control.{ControlState};
 ghost use Rattle.setl_machine_control.specs.Declaring.{modes_of, Serves};
 ghost use Rattle.setl_machine_control.specs.Working.{DoesBy};
@@ -36,7 +36,7 @@ pub(crate) fn do_variable(
     control: &mut Control,
 ) -> Result<End, AllocError>
     requires is { family_of what.now ≡ Family.Variables }
-    requires few { store.old.core.now.at + 1 < 2 ^ 64 }
+    requires few { CanGoOn store.old }
     requires fits { InstrFits (length store.old.core.globals) (length store.old.core.now.own) what.now }
     requires serves { Serves declarations.now store.old }
     ensures did { IfOk result (λ end. DoesBy (modes_of declarations.now) store.old control.old line (plain_instr (variables store.old.core) what.now) store.new control.new end) }
@@ -68,7 +68,7 @@ pub(crate) fn variable_telling(
     control: &mut Control,
 ) -> Result<Vec<Event>, End>
     requires is { family_of what.now ≡ Family.Variables }
-    requires few { store.old.core.now.at + 1 < 2 ^ 64 }
+    requires few { CanGoOn store.old }
     requires fits { InstrFits (length store.old.core.globals) (length store.old.core.now.own) what.now }
     requires serves { Serves declarations.now store.old }
     ensures did { DoesTelling (modes_of declarations.now) store.old control.old line (plain_instr (variables store.old.core) what.now) store.new control.new result }
@@ -97,7 +97,7 @@ fn store_telling(
     store: &mut Store<'_>,
     alloc: Global,
 ) -> Result<Vec<Event>, End>
-    requires few { store.old.core.now.at + 1 < 2 ^ 64 }
+    requires few { CanGoOn store.old }
     requires there { HasSlot (length store.old.core.globals) (length store.old.core.now.own) slot }
     requires serves { Serves declarations.now store.old }
     ensures { (from : ControlState) → DoesTelling (modes_of declarations.now) store.old from line (StoreIn (plain_slot (variables store.old.core) slot)) store.new from result }
@@ -120,7 +120,7 @@ fn alter_telling(
     store: &mut Store<'_>,
     control: &mut Control,
 ) -> Result<Vec<Event>, End>
-    requires few { store.old.core.now.at + 1 < 2 ^ 64 }
+    requires few { CanGoOn store.old }
     requires there { HasSlot (length store.old.core.globals) (length store.old.core.now.own) slot }
     requires can { CanAlter what }
     requires serves { Serves declarations.now store.old }

@@ -1,8 +1,9 @@
 //! `ok`, `fail` and `succeed`.
 
-ghost use Rattle.std.specs.Prelude.{◌≡◌, ℕ, ◌<◌, ◌+◌, ◌^◌, IfOk, IsOk};
+ghost use Rattle.std.specs.Prelude.{◌≡◌, ℕ, IfOk, IsOk};
 ghost use Rattle.setl_code.specs.Code.{KeepAll, GoBack, ForgetKept};
 ghost use Rattle.setl_machine_control.specs.Working.{Works, Does};
+ghost use Rattle.setl_store.specs.Standing.{CanGoOn};
 
 use crate::control::Control;
 use crate::end::{End, StopKind};
@@ -12,7 +13,7 @@ use std::alloc::AllocError;
 /// `ok`: keeps all that `fail` brings back. The error is want of memory.
 #[inline(never)]
 pub fn keep(store: &mut Store<'_>) -> Result<End, AllocError>
-    requires { store.old.core.now.at + 1 < 2 ^ 64 }
+    requires { CanGoOn store.old }
     ensures { (line : ℕ) → IfOk result (λ end. Works store.old line KeepAll store.new end) }
 {
     store.keep()?;
@@ -43,7 +44,7 @@ pub fn back(line: u32, store: &mut Store<'_>, control: &mut Control) -> Result<E
 /// comes.
 #[inline(never)]
 pub fn forget(line: u32, store: &mut Store<'_>) -> Result<End, AllocError>
-    requires { store.old.core.now.at + 1 < 2 ^ 64 }
+    requires { CanGoOn store.old }
     ensures did { IfOk result (λ end. Works store.old line ForgetKept store.new end) }
     ensures sure { IsOk result }
 {

@@ -1,7 +1,7 @@
 //! What all instructions share.
 
-ghost use Rattle.std.specs.Prelude.{◌≡◌, ◌<◌, ◌+◌, ◌^◌, suc, IfOk};
-ghost use Rattle.setl_store.specs.Standing.{at_place};
+ghost use Rattle.std.specs.Prelude.{◌≡◌, suc, IfOk};
+ghost use Rattle.setl_store.specs.Standing.{at_place, CanGoOn};
 ghost use Rattle.setl_machine_control.specs.Working.{PopsTop, EndsBy};
 
 use crate::end::{End, StopKind};
@@ -13,7 +13,7 @@ use std::alloc::AllocError;
 /// Goes on at the next step.
 #[inline]
 pub fn go_on(store: &mut Store<'_>)
-    requires { store.old.core.now.at + 1 < 2 ^ 64 }
+    requires { CanGoOn store.old }
     ensures { store.new ≡ record store.old { core = at_place (suc store.old.core.now.at) store.old.core } }
 {
     store.go_to(store.at() + 1);

@@ -1,10 +1,10 @@
 //! How an update of a variable ends.
 
-ghost use Rattle.std.specs.Prelude.{◌≡◌, ◌<◌, ◌+◌, ◌^◌, length, option_map, IfOk};
+ghost use Rattle.std.specs.Prelude.{◌≡◌, length, option_map, IfOk};
 ghost use Rattle.setl_code.specs.MayRun.{HasSlot};
 ghost use Rattle.setl_code.specs.Plain.{plain_slot};
 ghost use Rattle.setl_model_runs.specs.Variable.{Variable};
-ghost use Rattle.setl_store.specs.Standing.{variables};
+ghost use Rattle.setl_store.specs.Standing.{variables, CanGoOn};
 ghost use Rattle.setl_value.specs.code.DatumOf.{part};
 ghost use Rattle.setl_machine_control.specs.Declaring.{Modes, IsDeclared};
 ghost use Rattle.setl_machine_control.specs.Settling.{Settles, StoresWhole, EndsUpdate};
@@ -37,7 +37,7 @@ pub fn end_update(
     store: &mut Store<'_>,
     control: &mut Control,
 ) -> Result<End, AllocError>
-    requires few { store.old.core.now.at + 1 < 2 ^ 64 }
+    requires few { CanGoOn store.old }
     requires there { HasSlot (length store.old.core.globals) (length store.old.core.now.own) target.slot }
     ensures did { (modes : Modes) → IsDeclared modes (plain_slot (variables store.old.core) target.entry.slot) target.entry.declared → IfOk result (λ end. EndsUpdate modes left line (plain_slot (variables store.old.core) target.entry.slot) (part whole) (option_map part kept) store.old control.old store.new control.new end) }
     ensures reader { control.new.reader ≡ control.old.reader }

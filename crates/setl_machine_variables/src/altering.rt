@@ -1,6 +1,6 @@
 //! Updates of variables in place.
 
-ghost use Rattle.std.specs.Prelude.{◌≡◌, ◌≤◌, ◌<◌, ◌+◌, ◌^◌, ◌∷◌, [], Some, None, cond, map, option_map, length, IfOk};
+ghost use Rattle.std.specs.Prelude.{◌≡◌, ◌≤◌, ◌∷◌, [], Some, None, cond, map, option_map, length, IfOk};
 ghost use Rattle.setl_code.specs.Code.{Alter, Putting, Combining, TakingOut};
 ghost use Rattle.setl_code.specs.CodeCore.{held, popped};
 ghost use Rattle.setl_code.specs.Machine.{selected_by};
@@ -8,7 +8,7 @@ ghost use Rattle.setl_code.specs.MayRun.{HasSlot, CanAlter};
 ghost use Rattle.setl_code.specs.Plain.{plain_slot, plain_bracket, plain_alteration};
 ghost use Rattle.setl_code_declared.specs.Fitting.{Fitting};
 ghost use Rattle.setl_operators_table.specs.Operators.{operand_count};
-ghost use Rattle.setl_store.specs.Standing.{variables};
+ghost use Rattle.setl_store.specs.Standing.{variables, CanGoOn};
 ghost use Rattle.setl_machine_updates.specs.Selectors.{selected};
 ghost use Rattle.setl_value.specs.code.DatumOf.{part};
 ghost use Rattle.setl_code_events.specs.Told.{value_held, popped_values};
@@ -46,7 +46,7 @@ pub fn alter(
     store: &mut Store<'_>,
     control: &mut Control,
 ) -> Result<Updated, AllocError>
-    requires few { store.old.core.now.at + 1 < 2 ^ 64 }
+    requires few { CanGoOn store.old }
     requires there { HasSlot (length store.old.core.globals) (length store.old.core.now.own) slot }
     requires can { CanAlter what }
     requires serves { Serves declarations.now store.old }
@@ -84,7 +84,7 @@ fn put(
     store: &mut Store<'_>,
     control: &mut Control,
 ) -> Result<End, AllocError>
-    requires few { store.old.core.now.at + 1 < 2 ^ 64 }
+    requires few { CanGoOn store.old }
     requires there { HasSlot (length store.old.core.globals) (length store.old.core.now.own) target.slot }
     ensures did { (modes : Modes) → IsDeclared modes (plain_slot (variables store.old.core) target.entry.slot) target.entry.declared → Fitting modes store.old.core → IfOk result (λ end. Alters modes store.old control.old line Putting (plain_slot (variables store.old.core) target.entry.slot) (map selected at.now) store.new control.new end) }
     ensures reader { control.new.reader ≡ control.old.reader }
@@ -111,7 +111,7 @@ fn combine(
     store: &mut Store<'_>,
     control: &mut Control,
 ) -> Result<End, AllocError>
-    requires few { store.old.core.now.at + 1 < 2 ^ 64 }
+    requires few { CanGoOn store.old }
     requires there { HasSlot (length store.old.core.globals) (length store.old.core.now.own) target.slot }
     requires two { operand_count by ≡ Some 2 }
     ensures did { (modes : Modes) → IsDeclared modes (plain_slot (variables store.old.core) target.entry.slot) target.entry.declared → Fitting modes store.old.core → IfOk result (λ end. Alters modes store.old control.old line (Combining by) (plain_slot (variables store.old.core) target.entry.slot) (map selected at.now) store.new control.new end) }
@@ -139,7 +139,7 @@ fn take_out(
     store: &mut Store<'_>,
     control: &mut Control,
 ) -> Result<Updated, AllocError>
-    requires few { store.old.core.now.at + 1 < 2 ^ 64 }
+    requires few { CanGoOn store.old }
     requires there { HasSlot (length store.old.core.globals) (length store.old.core.now.own) target.slot }
     ensures did { (modes : Modes) → IsDeclared modes (plain_slot (variables store.old.core) target.entry.slot) target.entry.declared → Fitting modes store.old.core → IfOk result (λ updated. Alters modes store.old control.old line (TakingOut end) (plain_slot (variables store.old.core) target.entry.slot) (map selected at.now) store.new control.new updated.end) }
     ensures stored { (modes : Modes) → IsDeclared modes (plain_slot (variables store.old.core) target.entry.slot) target.entry.declared → IfOk result (λ updated. updated.end ≡ End.Paused → updated.stored ≡ stores_new (TakingOut end) (value_held (held (plain_slot (variables store.old.core) target.entry.slot) store.old.core)) (map selected at.now) control.old.turns) }

@@ -4,7 +4,7 @@
 //! is done to it that has no kernel for forms: then the variable goes on with the plain value. So what is converted costs no more
 //! than what was put in before.
 
-ghost use Rattle.std.specs.Prelude.{◌≡◌, ◌∷◌, ℕ, ◌<◌, ◌+◌, ◌^◌, true, [], length, map, Option, Some, IfOk, IfSome};
+ghost use Rattle.std.specs.Prelude.{◌≡◌, ◌∷◌, ℕ, true, [], length, map, Option, Some, IfOk, IfSome};
 ghost use Rattle.setl_code.specs.Code.{Load, Alter, Combining};
 ghost use Rattle.setl_model.specs.Step.{declared_mode};
 ghost use Rattle.setl_operators_table.specs.Operators.{op_of};
@@ -19,7 +19,7 @@ ghost use Rattle.setl_machine_variables.specs.Freely.{WorksOrLeaves};
 ghost use Rattle.setl_modes.specs.Fits.{is_taken};
 ghost use Rattle.setl_modes.specs.Modes.{mode_of};
 ghost use Rattle.setl_store.specs.Operands.{IsThere};
-ghost use Rattle.setl_store.specs.Standing.{variables, Becomes};
+ghost use Rattle.setl_store.specs.Standing.{variables, Becomes, CanGoOn};
 ghost use Rattle.setl_value.specs.Datum.{Datum};
 ghost use Rattle.setl_value.specs.code.DatumOf.{datum, part};
 
@@ -94,7 +94,7 @@ fn is_held_so(mode: &Mode) -> bool {
 /// which the variable then holds too. The error is want of memory.
 #[inline(never)]
 pub(crate) fn load_form(slot: Slot, store: &mut Store<'_>) -> Result<End, AllocError>
-    requires few { store.old.core.now.at + 1 < 2 ^ 64 }
+    requires few { CanGoOn store.old }
     requires slot { HasSlot (length store.old.core.globals) (length store.old.core.now.own) slot }
     requires there { IsThere (held (plain_slot (variables store.old.core) slot) store.old.core) }
     ensures { (line : ℕ) → IfOk result (λ end. Works store.old line (Load (plain_slot (variables store.old.core) slot)) store.new end) }
@@ -108,7 +108,7 @@ pub(crate) fn load_form(slot: Slot, store: &mut Store<'_>) -> Result<End, AllocE
 
 // Pushes what a variable holds in its form.
 fn load_in_form(slot: Slot, store: &mut Store<'_>) -> Result<End, AllocError>
-    requires few { store.old.core.now.at + 1 < 2 ^ 64 }
+    requires few { CanGoOn store.old }
     requires slot { HasSlot (length store.old.core.globals) (length store.old.core.now.own) slot }
     requires there { IsThere (held (plain_slot (variables store.old.core) slot) store.old.core) }
     ensures { (line : ℕ) → IfOk result (λ end. Works store.old line (Load (plain_slot (variables store.old.core) slot)) store.new end) }
@@ -120,7 +120,7 @@ fn load_in_form(slot: Slot, store: &mut Store<'_>) -> Result<End, AllocError>
 
 // Pushes what a variable holds as a plain value, which the variable then holds too.
 fn load_plain(slot: Slot, store: &mut Store<'_>) -> Result<End, AllocError>
-    requires few { store.old.core.now.at + 1 < 2 ^ 64 }
+    requires few { CanGoOn store.old }
     requires slot { HasSlot (length store.old.core.globals) (length store.old.core.now.own) slot }
     requires there { IsThere (held (plain_slot (variables store.old.core) slot) store.old.core) }
     ensures { (line : ℕ) → IfOk result (λ end. Works store.old line (Load (plain_slot (variables store.old.core) slot)) store.new end) }
@@ -134,7 +134,7 @@ fn load_plain(slot: Slot, store: &mut Store<'_>) -> Result<End, AllocError>
 
 // Whether the instruction behind the one in hand takes a set in a form.
 fn takes_forms(store: &Store<'_>) -> bool
-    requires { store.now.core.now.at + 1 < 2 ^ 64 }
+    requires { CanGoOn store.now }
 {
     let Some(body) = store.code().bodies.as_slice().get(store.body() as usize) else {
         return false;
@@ -161,7 +161,7 @@ pub(crate) fn update_in_form(
     declarations: &Declarations<'_>,
     store: &mut Store<'_>,
 ) -> Result<bool, AllocError>
-    requires few { store.old.core.now.at + 1 < 2 ^ 64 }
+    requires few { CanGoOn store.old }
     requires there { HasSlot (length store.old.core.globals) (length store.old.core.now.own) slot }
     requires serves { Serves declarations.now store.old }
     ensures { (line : ℕ) → IfOk result (λ done. WorksOrLeaves (modes_of declarations.now) store.old line (Alter (plain_alteration what) (plain_slot (variables store.old.core) slot) (map plain_bracket brackets.now)) store.new done) }

@@ -1,10 +1,10 @@
 //! Updates of integers in place.
 
-ghost use Rattle.std.specs.Prelude.{◌≡◌, ℕ, ◌<◌, ◌+◌, ◌^◌, List, map, length, IfSome, IsSome, IfOk};
+ghost use Rattle.std.specs.Prelude.{◌≡◌, ℕ, List, map, length, IfSome, IsSome, IfOk};
 ghost use Rattle.setl_code.specs.Code.{Alter};
 ghost use Rattle.setl_code.specs.MayRun.{HasSlot, CanAlter};
 ghost use Rattle.setl_code.specs.Plain.{plain_slot, plain_bracket, plain_alteration};
-ghost use Rattle.setl_store.specs.Standing.{variables, top_of};
+ghost use Rattle.setl_store.specs.Standing.{variables, top_of, CanGoOn};
 ghost use Rattle.setl_value.specs.code.DatumOf.{datum};
 ghost use Rattle.setl_machine_control.specs.Declaring.{Modes, modes_of, Serves};
 ghost use Rattle.setl_machine_variables.specs.Freely.{AltersFreely};
@@ -35,7 +35,7 @@ pub fn update(
     store: &mut Store<'_>,
     control: &mut Control,
 ) -> Result<End, AllocError>
-    requires few { store.old.core.now.at + 1 < 2 ^ 64 }
+    requires few { CanGoOn store.old }
     requires there { HasSlot (length store.old.core.globals) (length store.old.core.now.own) slot }
     requires can { CanAlter what }
     requires serves { Serves declarations.now store.old }
@@ -59,7 +59,7 @@ fn update_any(
     store: &mut Store<'_>,
     control: &mut Control,
 ) -> Result<End, AllocError>
-    requires few { store.old.core.now.at + 1 < 2 ^ 64 }
+    requires few { CanGoOn store.old }
     requires there { HasSlot (length store.old.core.globals) (length store.old.core.now.own) slot }
     requires can { CanAlter what }
     requires serves { Serves declarations.now store.old }
@@ -113,7 +113,7 @@ fn new_integer(
 /// Drops the top, and puts a value in a variable's slot.
 #[inline(always)]
 fn put_in_place(value: Value, slot: Slot, store: &mut Store<'_>) -> Result<End, AllocError>
-    requires few { store.old.core.now.at + 1 < 2 ^ 64 }
+    requires few { CanGoOn store.old }
     requires there { HasSlot (length store.old.core.globals) (length store.old.core.now.own) slot }
     requires some { IsSome (top_of store.old.core.now.operands) }
     ensures { (modes : Modes) (line : ℕ) (what : PlainAlteration) (bs : List PlainBracket) → AltersFreely modes what (plain_slot (variables store.old.core) slot) bs store.old.core (datum value) → IfOk result (λ end. WorksBy modes store.old line (Alter what (plain_slot (variables store.old.core) slot) bs) store.new end) }

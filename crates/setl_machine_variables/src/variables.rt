@@ -1,11 +1,11 @@
 //! Instructions that push a value, and those on variables.
 
-ghost use Rattle.std.specs.Prelude.{◌≡◌, ◌∷◌, ℕ, ◌<◌, ◌+◌, ◌^◌, drop, length, Some, IfOk, IfSome};
+ghost use Rattle.std.specs.Prelude.{◌≡◌, ◌∷◌, ℕ, drop, length, Some, IfOk, IfSome};
 ghost use Rattle.setl_code.specs.Code.{Push, Load, Take, StoreIn};
 ghost use Rattle.setl_code.specs.CodeCore.{Result as Holds};
 ghost use Rattle.setl_code.specs.MayRun.{HasSlot};
 ghost use Rattle.setl_code.specs.Plain.{plain_slot};
-ghost use Rattle.setl_store.specs.Standing.{variables};
+ghost use Rattle.setl_store.specs.Standing.{variables, CanGoOn};
 ghost use Rattle.setl_value.specs.Datum.{int, text};
 ghost use Rattle.setl_value.specs.code.DatumOf.{datum, part};
 ghost use Rattle.setl_machine_control.specs.Declaring.{modes_of, Serves};
@@ -25,7 +25,7 @@ use std::alloc::{AllocError, Global};
 /// Pushes a value, or `om`. The error is want of memory.
 #[inline]
 pub fn push(value: Option<Value>, store: &mut Store<'_>) -> Result<End, AllocError>
-    requires { store.old.core.now.at + 1 < 2 ^ 64 }
+    requires { CanGoOn store.old }
     ensures { (line : ℕ) → IfOk result (λ end. Works store.old line (Push (part value)) store.new end) }
 {
     store.push(value)?;
@@ -36,7 +36,7 @@ pub fn push(value: Option<Value>, store: &mut Store<'_>) -> Result<End, AllocErr
 /// Pushes an integer. The error is want of memory.
 #[inline(always)]
 pub fn push_integer(value: &Literal, store: &mut Store<'_>) -> Result<End, AllocError>
-    requires { store.old.core.now.at + 1 < 2 ^ 64 }
+    requires { CanGoOn store.old }
     ensures { (line : ℕ) → IfOk result (λ end. Works store.old line (Push (Some (int value.now))) store.new end) }
 {
     store.push(Some(Value::Int(value.get())))?;
@@ -47,7 +47,7 @@ pub fn push_integer(value: &Literal, store: &mut Store<'_>) -> Result<End, Alloc
 /// Pushes a string. The error is want of memory.
 #[inline(never)]
 pub fn push_text(alloc: Global, bytes: &Name, store: &mut Store<'_>) -> Result<End, AllocError>
-    requires { store.old.core.now.at + 1 < 2 ^ 64 }
+    requires { CanGoOn store.old }
     ensures { (line : ℕ) → IfOk result (λ end. Works store.old line (Push (Some (text bytes.now))) store.new end) }
 {
     let value = Text::of(alloc, bytes.bytes())?;
@@ -59,7 +59,7 @@ pub fn push_text(alloc: Global, bytes: &Name, store: &mut Store<'_>) -> Result<E
 /// Pushes what a variable holds. The run is stuck where that was taken. The error is want of memory.
 #[inline(always)]
 pub fn load(slot: Slot, store: &mut Store<'_>) -> Result<End, AllocError>
-    requires few { store.old.core.now.at + 1 < 2 ^ 64 }
+    requires few { CanGoOn store.old }
     requires there { HasSlot (length store.old.core.globals) (length store.old.core.now.own) slot }
     ensures { (line : ℕ) → IfOk result (λ end. Works store.old line (Load (plain_slot (variables store.old.core) slot)) store.new end) }
 {
@@ -78,7 +78,7 @@ pub fn load(slot: Slot, store: &mut Store<'_>) -> Result<End, AllocError>
 /// memory.
 #[inline(always)]
 pub fn take(slot: Slot, store: &mut Store<'_>) -> Result<End, AllocError>
-    requires few { store.old.core.now.at + 1 < 2 ^ 64 }
+    requires few { CanGoOn store.old }
     requires there { HasSlot (length store.old.core.globals) (length store.old.core.now.own) slot }
     ensures { (line : ℕ) → IfOk result (λ end. Works store.old line (Take (plain_slot (variables store.old.core) slot)) store.new end) }
 {
@@ -101,7 +101,7 @@ pub fn store_in(
     declarations: &Declarations<'_>,
     store: &mut Store<'_>,
 ) -> Result<End, AllocError>
-    requires few { store.old.core.now.at + 1 < 2 ^ 64 }
+    requires few { CanGoOn store.old }
     requires there { HasSlot (length store.old.core.globals) (length store.old.core.now.own) slot }
     requires serves { Serves declarations.now store.old }
     ensures { IfOk result (λ end. WorksBy (modes_of declarations.now) store.old line (StoreIn (plain_slot (variables store.old.core) slot)) store.new end) }
@@ -131,7 +131,7 @@ pub fn store_at_once(
     declarations: &Declarations<'_>,
     store: &mut Store<'_>,
 ) -> Result<bool, AllocError>
-    requires few { store.old.core.now.at + 1 < 2 ^ 64 }
+    requires few { CanGoOn store.old }
     requires there { HasSlot (length store.old.core.globals) (length store.old.core.now.own) slot }
     requires serves { Serves declarations.now store.old }
     ensures { (line : ℕ) → IfOk result (λ done. WorksOrLeaves (modes_of declarations.now) store.old line (StoreIn (plain_slot (variables store.old.core) slot)) store.new done) }

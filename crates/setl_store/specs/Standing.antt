@@ -1,5 +1,5 @@
 -- What a store stands for: its code, and the core of the code's run but for the world, with all that is kept.
-use Rattle.std.specs.Prelude.{◌≡◌, ℕ, suc, Bool, true, false, List, [], ◌∷◌, map, Option, Some, None, Result, Ok, Err, slice_get}
+use Rattle.std.specs.Prelude.{◌≡◌, ◌<◌, ◌+◌, ◌^◌, ℕ, suc, Bool, true, false, List, [], ◌∷◌, map, Option, Some, None, Result, Ok, Err, slice_get}
 use Rattle.std.specs.Option.{option_map}
 use Rattle.setl_value.specs.Datum.{Datum, bool, set, tuple}
 use Rattle.setl_value.specs.code.DatumOf.{datum}
@@ -101,6 +101,10 @@ top_of (o ∷ xs) = option_map (λ v. (v, xs)) (value_of o)
 abbrev pub Becomes : {V E : Type 0} → Result V E → (old new made : Standing) → Type 0
 Becomes (Ok v) old new made = new ≡ made
 Becomes (Err e) old new made = new ≡ old
+
+-- there is a number for the step behind the one in hand, as there is where the body has a step in hand
+abbrev pub CanGoOn : Standing → Type 0
+CanGoOn s = s.core.now.at + 1 < 2 ^ 64
 
 -- what a slot holds
 abbrev pub IsHeld : Held → Content → Type 0

@@ -1,10 +1,10 @@
 //! `ok`, `fail` and `succeed`.
 
-ghost use Rattle.std.specs.Prelude.{◌≡◌, ◌<◌, ◌+◌, ◌^◌, ◌∷◌, length, nat_lt, true, false, OnOk, OnErr};
+ghost use Rattle.std.specs.Prelude.{◌≡◌, ◌∷◌, length, nat_lt, true, false, OnOk, OnErr};
 ghost use Rattle.setl_value.specs.declared.Value.TheVariants as value;
 ghost use Rattle.setl_store_operands.specs.declared.cells.Operand.TheVariants as operand;
 ghost use Rattle.setl_store.specs.Flat.{answering};
-ghost use Rattle.setl_store.specs.Standing.{kept, Restored, Forgotten, Becomes};
+ghost use Rattle.setl_store.specs.Standing.{kept, Restored, Forgotten, Becomes, CanGoOn};
 
 use crate::cells::{Contents, Kept};
 use crate::store::Store;
@@ -20,7 +20,7 @@ impl<'c> Store<'c> {
     ///
     /// The error is want of memory, or that something was kept 2^63 - 1 times, which no run does, and then all is as before.
     pub fn keep(&mut self) -> Result<(), AllocError>
-        requires { self.old.core.now.at + 1 < 2 ^ 64 }
+        requires { CanGoOn self.old }
         ensures { Becomes result self.old self.new (record self.old { core = kept self.old.core }) }
     {
         setl_rep_bases::laws::cuts_are_exact();
@@ -55,7 +55,7 @@ impl<'c> Store<'c> {
     /// Forgets what was kept last, as `succeed` does, and goes on behind the step in hand; all changes stay. Its answer is
     /// whether anything was kept, and else all is as before. It takes no memory.
     pub fn forget(&mut self) -> bool
-        requires { self.old.core.now.at + 1 < 2 ^ 64 }
+        requires { CanGoOn self.old }
         ensures code { self.new.code ≡ self.old.code }
         ensures forgotten { Forgotten result self.old.core self.new.core }
     {

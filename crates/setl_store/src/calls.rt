@@ -8,7 +8,7 @@ ghost use Rattle.setl_value.specs.code.DatumOf.{part};
 ghost use Rattle.setl_store.specs.Bodies.{entered, left, Leaves};
 ghost use Rattle.setl_store.specs.Flat.{step_of};
 ghost use Rattle.setl_store.specs.Returning.{name_count_of, parameter_count_of};
-ghost use Rattle.setl_store.specs.Standing.{started, variables, variables_in, Becomes};
+ghost use Rattle.setl_store.specs.Standing.{started, variables, variables_in, Becomes, CanGoOn};
 
 use crate::activations::{
     add_activation, add_cleared, end_activation, innermost, members_of_lower,
@@ -79,7 +79,7 @@ impl<'c> Store<'c> {
         ensures some { IfSome result (λ step. fetch (plain_code self.now.code) self.now.core.now.body self.now.core.now.at ≡ Some (plain_step (variables self.now.core) step.now)) }
         ensures none { IfNone result (fetch (plain_code self.now.code) self.now.core.now.body self.now.core.now.at ≡ None) }
         ensures fits { IfSome result (λ step. InstrFits (length self.now.core.globals) (length self.now.core.now.own) step.now.what) }
-        ensures few { IfSome result (λ step. self.now.core.now.at + 1 < 2 ^ 64) }
+        ensures few { IfSome result (λ step. CanGoOn self.now) }
     {
         step_at(self.code, innermost(&self.environment).body, self.at)
     }
@@ -91,7 +91,7 @@ impl<'c> Store<'c> {
     pub fn enter(&mut self, body: u32, values: Vec<Option<Value>>) -> Result<(), AllocError>
         requires there { body < length self.old.code.bodies }
         requires each { IfSome (slice_get self.old.code.bodies body) (λ b. length values.items ≡ length b.parameters) }
-        requires few { self.old.core.now.at + 1 < 2 ^ 64 }
+        requires few { CanGoOn self.old }
         ensures { Becomes result self.old self.new (record self.old { core = entered body (slice_get (plain_code self.old.code).bodies body) (map part values.items) self.old.core }) }
     {
         let names = name_count(self.code, body);

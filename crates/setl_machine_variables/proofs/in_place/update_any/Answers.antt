@@ -2,7 +2,7 @@ use Rattle.std.proofs.Common.{◌≡◌, ◌+◌, ◌<◌, ◌^◌, length, map,
 use Rattle.setl_code.specs.Code.{Alter}
 use Rattle.setl_code.specs.MayRun.{HasSlot}
 use Rattle.setl_code.specs.Plain.{plain_slot, plain_bracket, plain_alteration}
-use Rattle.setl_store.specs.Standing.{Standing, variables}
+use Rattle.setl_store.specs.Standing.{Standing, variables, CanGoOn}
 use Rattle.setl_machine_control.specs.Declaring.{modes_of, Serves}
 use Rattle.setl_machine_control.specs.Laws.{works_alone_by}
 use Rattle.setl_machine_control.specs.Working.{DoesBy}
@@ -24,7 +24,7 @@ alter-requires-clause-few c =
     let modes = modes_of c.args.declarations.now in
     let what = Alter (plain_alteration c.args.what) (plain_slot (variables old.core) c.args.slot) (map plain_bracket c.args.brackets.now) in
     let same : c.update_in_form.new.store ≡ old = subst (WorksOrLeaves modes old c.args.line what c.update_in_form.new.store) c.if-branch.false (c.in_ok-update_in_form.ensures c.args.line) in
-    subst (λ (s : Standing). s.core.now.at + 1 < 2 ^ 64) (sym same) c.requires.few
+    subst (λ (s : Standing). CanGoOn s) (sym same) c.requires.few
 
 pub alter-requires-clause-there : goal.alter-requires-clause-there
 alter-requires-clause-there c =
