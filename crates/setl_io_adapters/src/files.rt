@@ -24,6 +24,8 @@ impl<'a, R: rt::Files> DiskFiles<'a, R> {
 impl<R: rt::Files> Files for DiskFiles<'_, R> {
     ghost texts = { λ _. None };
 
+    ghost asked = { λ _. None };
+
     ghost faults = { λ files. files.faults };
 
     /// Reads up to one byte more than the limit, so that a file that never ends is too long.

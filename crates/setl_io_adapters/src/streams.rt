@@ -1,5 +1,5 @@
 //! Streams that are read or written.
-ghost use Rattle.std.specs.Prelude.{◌≡◌};
+ghost use Rattle.std.specs.Prelude.{◌≡◌, None};
 
 use setl_io::{Put, Sink, Source, Took};
 use std::io::{Read, Write};
@@ -22,6 +22,8 @@ impl<R: Read> ReaderSource<R> {
 
 impl<R: Read> Source for ReaderSource<R> {
     ghost left = { λ source. R.remaining source.reader };
+
+    ghost calls = { λ _. None };
 
     ghost faults = { λ source. source.faults };
 
@@ -56,6 +58,8 @@ impl<W: Write> WriterSink<W> {
 
 impl<W: Write> Sink for WriterSink<W> {
     ghost held = { λ sink. W.contents sink.writer };
+
+    ghost calls = { λ _. None };
 
     ghost faults = { λ sink. sink.faults };
 
