@@ -1,2 +1,3 @@
 pub mod PageLists
 pub mod PageSizes
+pub mod PagesFilled

@@ -5,7 +5,7 @@ ghost use Rattle.std.specs.Prelude.{◌≡◌, ◌<◌, ◌≤◌, ◌+◌, ◌-
 ghost use Rattle.std.specs.Bool.{OnTrue};
 ghost use Rattle.std.specs.List.{AllByRecursion};
 ghost use Rattle.setl_value_pages.specs.Pages.{IsPage, IsIn, items, joined, page_at};
-ghost use Rattle.setl_value_pages.specs.Exchange.{Exchanges, AreHalves, page_sizes, put_size};
+ghost use Rattle.setl_value_pages.specs.Exchange.{Exchanges, AreFilled, AreHalves, Ends, Refills, cut_size, even_size, page_sizes, put_size};
 
 use crate::shared::{cut_in, extend, put_in, replace_between, replace_in};
 use std::alloc::{AllocError, Global};
@@ -153,6 +153,7 @@ pub fn cut_page<T: Clone + Drop>(
     requires item { i < length (page_at (map items list.old.items) k) }
     ensures taken { IfOk result (λ v. slice_get (page_at (map items list.old.items) k) i ≡ Some v) }
     ensures cut { OnOk result (Exchanges (map items list.old.items) (map items list.new.items) k i k (i + 1) []) }
+    ensures sizes { OnOk result (page_sizes (map items list.new.items) ≡ cut_size (page_sizes (map items list.old.items)) k) }
     ensures refused { OnErr result (map items list.new.items ≡ map items list.old.items) }
 {
     if list[k].len() == 1 {
@@ -169,6 +170,7 @@ fn cut_alone<T: Clone + Drop>(list: &mut Vec<Page<T>>, k: usize) -> Result<T, Al
     requires alone { length (page_at (map items list.old.items) k) ≡ 1 }
     ensures taken { IfOk result (λ v. slice_get (page_at (map items list.old.items) k) 0 ≡ Some v) }
     ensures cut { OnOk result (Exchanges (map items list.old.items) (map items list.new.items) k 0 k 1 []) }
+    ensures sizes { OnOk result (page_sizes (map items list.new.items) ≡ cut_size (page_sizes (map items list.old.items)) k) }
     ensures refused { OnErr result (map items list.new.items ≡ map items list.old.items) }
 {
     let v = list[k][0].clone()?;
@@ -188,6 +190,7 @@ fn cut_from_page<T: Clone + Drop>(
     requires others { (1 < length (page_at (map items list.old.items) k)) × (length (page_at (map items list.old.items) k) ≤ 64) }
     ensures taken { IfOk result (λ v. slice_get (page_at (map items list.old.items) k) i ≡ Some v) }
     ensures cut { OnOk result (Exchanges (map items list.old.items) (map items list.new.items) k i k (i + 1) []) }
+    ensures sizes { OnOk result (page_sizes (map items list.new.items) ≡ cut_size (page_sizes (map items list.old.items)) k) }
     ensures refused { OnErr result (map items list.new.items ≡ map items list.old.items) }
 {
     let changed = &mut list[k];
@@ -208,6 +211,7 @@ pub fn replace_pages<T: Clone + Drop>(
     requires to { IsIn (map items list.old.items) to.0 to.1 }
     requires ordered { (from.0 < to.0) ⊎ ((from.0 ≡ to.0) × (from.1 ≤ to.1)) }
     ensures replaced { OnOk result (Exchanges (map items list.old.items) (map items list.new.items) from.0 from.1 to.0 to.1 by.items) }
+    ensures sizes { OnOk result (Refills (page_sizes (map items list.old.items)) (page_sizes (map items list.new.items)) from.0 to.0) }
     ensures refused { OnErr result (map items list.new.items ≡ map items list.old.items) }
 {
     if list.is_empty() {
@@ -238,6 +242,7 @@ fn fill<T: Clone + Drop>(
     requires exact { (x y : T) → T.is_clone x y → y ≡ x }
     requires none { list.old.items ≡ [] }
     ensures filled { OnOk result (Exchanges [] (map items list.new.items) 0 0 0 0 by.items) }
+    ensures sizes { OnOk result (Refills [] (page_sizes (map items list.new.items)) 0 0) }
     ensures refused { OnErr result (map items list.new.items ≡ []) }
 {
     let pages = paged(alloc, MOST, by)?;
@@ -257,6 +262,7 @@ fn replace_in_page<T: Clone + Drop>(
     requires place { (i ≤ j) × (j ≤ length (page_at (map items list.old.items) k)) }
     requires room { (1 ≤ i + length by.items + (length (page_at (map items list.old.items) k) - j)) × (i + length by.items + (length (page_at (map items list.old.items) k) - j) ≤ 64) }
     ensures replaced { OnOk result (Exchanges (map items list.old.items) (map items list.new.items) k i k j by.items) }
+    ensures sizes { OnOk result (Refills (page_sizes (map items list.old.items)) (page_sizes (map items list.new.items)) k k) }
     ensures refused { OnErr result (map items list.new.items ≡ map items list.old.items) }
 {
     let changed = &mut list[k];
@@ -276,6 +282,7 @@ fn replace_whole<T: Clone + Drop>(
     requires from { from.1 ≤ length (page_at (map items list.old.items) from.0) }
     requires to { to.1 ≤ length (page_at (map items list.old.items) to.0) }
     ensures replaced { OnOk result (Exchanges (map items list.old.items) (map items list.new.items) from.0 from.1 to.0 to.1 by.items) }
+    ensures sizes { OnOk result (Refills (page_sizes (map items list.old.items)) (page_sizes (map items list.new.items)) from.0 to.0) }
     ensures refused { OnErr result (map items list.new.items ≡ map items list.old.items) }
 {
     let pages = rebuilt(
@@ -297,6 +304,7 @@ fn rebuilt<T: Clone + Drop>(
     requires exact { (x y : T) → T.is_clone x y → y ≡ x }
     ensures pages { IfOk result (λ list. AllByRecursion IsPage (map items list.items)) }
     ensures all { IfOk result (λ list. joined (map items list.items) ≡ head.now ++ by.items ++ tail.now) }
+    ensures filled { IfOk result (λ list. AreFilled (even_size (length (joined (map items list.items)))) (page_sizes (map items list.items))) }
 {
     let mut by = by;
     let mut all = Vec::new(alloc);
@@ -309,7 +317,8 @@ fn rebuilt<T: Clone + Drop>(
 
 // The size of pages of which as few as can be hold `count` items evenly.
 fn page_size(count: usize) -> usize
-    ensures { (1 ≤ result) × (result ≤ 64) }
+    ensures small { (1 ≤ result) × (result ≤ 64) }
+    ensures even { result ≡ even_size count }
 {
     let pages = count.saturating_sub(1) / MOST + 1;
     (count / pages + 1).min(MOST)
@@ -325,6 +334,7 @@ pub fn paged<T: Clone + Drop>(
     requires most { (1 ≤ most) × (most ≤ 64) }
     ensures pages { IfOk result (λ list. AllByRecursion IsPage (map items list.items)) }
     ensures all { IfOk result (λ list. joined (map items list.items) ≡ members.items) }
+    ensures filled { IfOk result (λ list. AreFilled most (page_sizes (map items list.items))) }
 {
     let mut list = Vec::new(alloc);
     if members.len() <= most {
@@ -349,8 +359,10 @@ fn append<T: Drop>(
 ) -> Result<(), AllocError>
     requires most { (1 ≤ most) × (most ≤ 64) }
     requires pages { AllByRecursion IsPage (map items list.old.items) }
+    requires full { AllByRecursion (λ n. n ≡ most) (page_sizes (map items list.old.items)) }
     requires page { length page.old.items ≤ most }
     ensures pages { OnOk result (AllByRecursion IsPage (map items list.new.items)) }
+    ensures full { OnOk result (AllByRecursion (λ n. n ≡ most) (page_sizes (map items list.new.items))) }
     ensures page { OnOk result (length page.new.items ≤ most) }
     ensures put { OnOk result (joined (map items list.new.items) ++ page.new.items ≡ (joined (map items list.old.items) ++ page.old.items) ++ v ∷ []) }
 {
@@ -368,6 +380,7 @@ fn end_page<T: Drop>(alloc: Global, list: &mut Vec<Page<T>>, page: Vec<T>) -> Re
     requires page { length page.items ≤ 64 }
     ensures pages { OnOk result (AllByRecursion IsPage (map items list.new.items)) }
     ensures put { OnOk result (joined (map items list.new.items) ≡ joined (map items list.old.items) ++ page.items) }
+    ensures ended { OnOk result (Ends (map items list.old.items) page.items (map items list.new.items)) }
 {
     if page.is_empty() {
         return Ok(());
