@@ -9,5 +9,3 @@ mod variables;
 
 pub use advice::advise;
 pub use laws::advice_always_fits;
-
-/// Want of memory.

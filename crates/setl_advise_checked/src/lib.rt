@@ -7,5 +7,3 @@ mod plain;
 mod programs;
 
 pub use programs::has_advised_modes;
-
-/// Want of memory.

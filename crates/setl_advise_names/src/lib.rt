@@ -6,5 +6,3 @@ mod spelled;
 
 pub use free::first_free;
 pub use spelled::spelled_names;
-
-/// Want of memory.

@@ -8,5 +8,3 @@ mod sections;
 pub use lines::{Numbers, push_base, push_line, push_name};
 pub use plain::Written;
 pub use sections::{Variable, is_used, section};
-
-/// Want of memory.

@@ -14,5 +14,3 @@ mod sections;
 
 pub use image::{Image, decode, encode};
 pub use setl_image_codec::ImageFault;
-
-/// Want of memory.

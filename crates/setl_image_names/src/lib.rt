@@ -6,5 +6,3 @@ mod differing;
 
 pub use declared::{own_declared, stand_once};
 pub use differing::{different_modes, different_names, own_names_differ};
-
-/// Want of memory.

@@ -4,5 +4,3 @@
 mod shapes;
 
 pub use shapes::{Signature, has_shapes, signatures};
-
-/// Want of memory.

@@ -5,5 +5,3 @@
 mod search;
 
 pub use search::heights;
-
-/// Want of memory.

@@ -8,5 +8,3 @@ mod walk;
 pub use effect::Effect;
 pub use stacks::Kind;
 pub use walk::has_table;
-
-/// Want of memory.

@@ -10,5 +10,3 @@ mod verifying;
 
 pub use laws::sound_images_run;
 pub use verifying::{VerifyFault, verify};
-
-/// Want of memory.

@@ -4,5 +4,3 @@
 mod turns;
 
 pub use turns::falling_heights;
-
-/// Want of memory.

@@ -10,5 +10,3 @@ mod taking;
 pub use marking::take_marks;
 pub use slots::declared_among;
 pub use taking::takes_are_last;
-
-/// Want of memory.

@@ -23,8 +23,6 @@ use crate::row::mark_rows;
 pub use node::{Access, Node, Way};
 use std::alloc::{AllocError, Global};
 
-/// Want of memory.
-
 /// For each step that reads a slot, whether no path from the next step reaches a read of that slot before a write of it.
 /// `back` tells the slots that are handed back, and there are so many slots.
 ///
