@@ -2,7 +2,7 @@
 
 ghost use Rattle.std.specs.Prelude.{◌≡◌, ◌∷◌, ℕ, drop, length, Some, IfOk, IfSome};
 ghost use Rattle.setl_code.specs.Code.{Push, Load, Take, StoreIn};
-ghost use Rattle.setl_code.specs.CodeCore.{Result as Holds};
+ghost use Rattle.setl_code.specs.CodeCore.{Result as Holds, There, held};
 ghost use Rattle.setl_code.specs.MayRun.{HasSlot};
 ghost use Rattle.setl_code.specs.Plain.{plain_slot};
 ghost use Rattle.setl_store.specs.Standing.{variables, CanGoOn};
@@ -72,6 +72,18 @@ pub fn load(slot: Slot, store: &mut Store<'_>) -> Result<End, AllocError>
     store.push(value)?;
     go_on(store);
     Ok(End::Paused)
+}
+
+/// The value that a variable holds as it is; None where it holds `om`, nothing, or a form. It takes no memory.
+#[inline(always)]
+pub fn value_in<'s>(slot: Slot, store: &'s Store<'_>) -> Option<&'s Value>
+    requires { HasSlot (length store.now.core.globals) (length store.now.core.now.own) slot }
+    ensures { IfSome result (λ value. held (plain_slot (variables store.now.core) slot) store.now.core ≡ There (Some (datum value.now))) }
+{
+    match store.slot(slot) {
+        Content::Value(value) => Some(value),
+        Content::Om | Content::Taken | Content::Based => None,
+    }
 }
 
 /// Pushes what a variable holds, and leaves nothing there. The run is stuck where that was taken before. The error is want of

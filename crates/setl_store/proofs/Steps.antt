@@ -64,6 +64,16 @@ step_found code bs at e kept s n x h is number found =
     ∙ ap (option_map (plain_step (variables_by_slots code m (slice_get code.bodies m)))) (subst (λ k. step_of (slice_get code.bodies k) at ≡ Some x) number found)
     ∙ ap (λ v. Some (plain_step v x)) (sym (variables_here code bs at e kept (innermost_of bs (plain_code code) e h))))
 
+-- the same of a step at another place
+pub ahead_found : (code : Code) (bs : BasesState) (at : ℕ) (e : Here) (kept : List (Here × Kept)) (s : Standing) (n place : ℕ) (x : Step) → IsSound (plain_code code) bs e → stands code bs at e kept ≡ s → n ≡ body_in (reverse e.activations) →
+    step_of (slice_get code.bodies n) place ≡ Some x → fetch (plain_code s.code) s.core.now.body place ≡ Some (plain_step (variables s.core) x)
+ahead_found code bs at e kept s n place x h is number found =
+    let m = body_in (reverse e.activations) in
+    subst (λ (t : Standing). fetch (plain_code t.code) t.core.now.body place ≡ Some (plain_step (variables t.core) x)) is
+    (fetched code m place
+    ∙ ap (option_map (plain_step (variables_by_slots code m (slice_get code.bodies m)))) (subst (λ k. step_of (slice_get code.bodies k) place ≡ Some x) number found)
+    ∙ ap (λ v. Some (plain_step v x)) (sym (variables_here code bs at e kept (innermost_of bs (plain_code code) e h))))
+
 no_step : (code : Code) (bs : BasesState) (at : ℕ) (e : Here) (kept : List (Here × Kept)) (s : Standing) (n : ℕ) → stands code bs at e kept ≡ s → n ≡ body_in (reverse e.activations) →
     step_of (slice_get code.bodies n) at ≡ None → fetch (plain_code s.code) s.core.now.body s.core.now.at ≡ None
 no_step code bs at e kept s n is number none =
@@ -111,11 +121,11 @@ counts_by code bs at e kept (innermost f fs is h) =
           (z.own_length ∙ ap length (names_same code f.body) ∙ counted f.body (slice_get code.bodies f.body));
     }
 
-pub step_fits : (code : Code) (bs : BasesState) (keeps : ℕ) (at : ℕ) (e : Here) (kept : List (Here × Kept)) (s : Standing) (n : ℕ) (x : Step) → MayRun code × IsSound (plain_code code) bs e × AllSound (plain_code code) bs keeps e.slots kept → stands code bs at e kept ≡ s → n ≡ body_in (reverse e.activations) →
-    step_of (slice_get code.bodies n) at ≡ Some x → InstrFits (length s.core.globals) (length s.core.now.own) x.what
-step_fits code bs keeps at e kept s n x h is number found =
+pub step_fits : (code : Code) (bs : BasesState) (keeps : ℕ) (at : ℕ) (e : Here) (kept : List (Here × Kept)) (s : Standing) (n place : ℕ) (x : Step) → MayRun code × IsSound (plain_code code) bs e × AllSound (plain_code code) bs keeps e.slots kept → stands code bs at e kept ≡ s → n ≡ body_in (reverse e.activations) →
+    step_of (slice_get code.bodies n) place ≡ Some x → InstrFits (length s.core.globals) (length s.core.now.own) x.what
+step_fits code bs keeps at e kept s n place x h is number found =
     let z = counts_by code bs at e kept (innermost_of bs (plain_code code) e h.1) in
-    let fits = fits_by (length code.vars) n (slice_get code.bodies n) at x (body_fits (length code.vars) 0 code.bodies n n (omega arith) (h.0).1) found in
+    let fits = fits_by (length code.vars) n (slice_get code.bodies n) place x (body_fits (length code.vars) 0 code.bodies n n (omega arith) (h.0).1) found in
     subst (λ (t : Standing). InstrFits (length t.core.globals) (length t.core.now.own) x.what) is
     (subst (λ m. InstrFits m (length (core_of (plain_code code) bs at e kept).now.own) x.what) (sym z.globals)
     (subst (λ m. InstrFits (length code.vars) m x.what) (sym (z.own ∙ ap (λ m. own_count_of (slice_get code.bodies m)) (sym number))) fits))

@@ -8,6 +8,7 @@ use Rattle.setl_code.specs.declared.code.Code.{Code}
 use Rattle.setl_model_runs.specs.Variable.{Variable}
 use Rattle.setl_code.specs.Code as plain
 use Rattle.setl_code.specs.Code.{Body}
+use Rattle.setl_code.specs.Machine.{fetch}
 use Rattle.setl_code.specs.Plain.{Variables, plain_code}
 use Rattle.setl_code.specs.CodeCore.{cleared, variables_of, Copy, Held, There, Gone, Operand, Result as Holds, Iterator, PairIterator, Collecting, value_of, CodeCore}
 use Rattle.setl_store.specs.declared.store.Content.{Content}
@@ -105,6 +106,10 @@ Becomes (Err e) old new made = new ≡ old
 -- there is a number for the step behind the one in hand, as there is where the body has a step in hand
 abbrev pub CanGoOn : Standing → Type 0
 CanGoOn s = s.core.now.at + 1 < 2 ^ 64
+
+-- the step so many steps behind the one in hand, in the body at work
+abbrev pub IsAhead : Standing → ℕ → plain.Step → Type 0
+IsAhead s n step = fetch (plain_code s.code) s.core.now.body (s.core.now.at + n) ≡ Some step
 
 -- what a slot holds
 abbrev pub IsHeld : Held → Content → Type 0

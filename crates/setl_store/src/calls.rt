@@ -8,7 +8,7 @@ ghost use Rattle.setl_value.specs.code.DatumOf.{part};
 ghost use Rattle.setl_store.specs.Bodies.{entered, left, Leaves};
 ghost use Rattle.setl_store.specs.Flat.{step_of};
 ghost use Rattle.setl_store.specs.Returning.{name_count_of, parameter_count_of};
-ghost use Rattle.setl_store.specs.Standing.{started, variables, variables_in, Becomes, CanGoOn};
+ghost use Rattle.setl_store.specs.Standing.{started, variables, variables_in, Becomes, CanGoOn, IsAhead};
 
 use crate::activations::{
     add_activation, add_cleared, end_activation, innermost, members_of_lower,
@@ -82,6 +82,19 @@ impl<'c> Store<'c> {
         ensures few { IfSome result (λ step. CanGoOn self.now) }
     {
         step_at(self.code, innermost(&self.environment).body, self.at)
+    }
+
+    /// The step so many steps behind the one in hand, in the body at work, if there is one. It takes no memory.
+    #[inline(always)]
+    pub fn step_ahead(&self, n: usize) -> Option<&'c Step>
+        ensures some { IfSome result (λ step. IsAhead self.now n (plain_step (variables self.now.core) step.now)) }
+        ensures fits { IfSome result (λ step. InstrFits (length self.now.core.globals) (length self.now.core.now.own) step.now.what) }
+        ensures few { IfSome result (λ step. self.now.core.now.at + n + 1 < 2 ^ 64) }
+    {
+        let Some(at) = self.at.checked_add(n) else {
+            return None;
+        };
+        step_at(self.code, innermost(&self.environment).body, at)
     }
 
     /// Has the body of this number at work, with these values in its parameters. The body that calls it goes on behind

@@ -16,4 +16,4 @@ returns-clause-none c =
 pub returns-clause-fits : goal.returns-clause-fits
 returns-clause-fits c =
     IfSome_then c.step_at.result c.step_at.ensures.some
-    (λ step found. step_fits c.self.inside.code.now c.self.inside.bases c.self.inside.keeps c.self.inside.at c.self.inside.environment.now c.self.inside.environment.kept c.args.self.now c.innermost.result.body step.now c.self.invariant c.self.view_is (sym (ap body_in c.innermost.ensures)) found)
+    (λ step found. step_fits c.self.inside.code.now c.self.inside.bases c.self.inside.keeps c.self.inside.at c.self.inside.environment.now c.self.inside.environment.kept c.args.self.now c.innermost.result.body c.self.inside.at step.now c.self.invariant c.self.view_is (sym (ap body_in c.innermost.ensures)) found)
