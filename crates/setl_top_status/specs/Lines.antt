@@ -1,7 +1,9 @@
--- The line of a fault, and what the error output gains from lines that are tried.
-use Rattle.std.specs.Prelude.{ℕ, List, [], ◌∷◌, ◌++◌, Option, codes}
+-- The line of a fault, and what an output gains from a line that is tried.
+use Rattle.std.specs.Prelude.{◌⊎◌, ℕ, List, [], ◌∷◌, ◌++◌, codes}
 use Rattle.std.specs.Io.KnownBytes.{Appends}
-use Rattle.setl_top_status.specs.Fronts.{IsFront}
+use Rattle.setl_io.specs.Faults.{Called}
+use Rattle.setl_io.specs.Sink.{AppendsPart}
+use Rattle.setl_top_status.specs.Seen.{Seen, CountRose, CountStays}
 use Rattle.setl_top_status.specs.declared.fault.Fault.{Fault}
 use Rattle.setl_top_status.specs.declared.fault.Fault.TheVariants.{Read, Write, NoMemory}
 
@@ -11,10 +13,20 @@ fault_line Read = codes "read fault" ++ 10 ∷ []
 fault_line Write = codes "write fault" ++ 10 ∷ []
 fault_line NoMemory = codes "no memory" ++ 10 ∷ []
 
--- a front of the line is added
-abbrev pub AppendsFront : Option (List ℕ) → Option (List ℕ) → List ℕ → Type 0
-AppendsFront old new line = (front : List ℕ) × IsFront front line × Appends old new front
+-- The line is tried once: it is gained without a fault, or some of it is and not all, with one fault at most.
+pub record TriesLine (line : List ℕ) (before after : Seen (List ℕ)) : Type 0 where
+  pub called : Called before.calls after.calls
+  pub gained : (Appends before.held after.held line × CountStays before after) ⊎ (AppendsPart before.held after.held line × (CountRose before after ⊎ CountStays before after))
 
--- a front of the one and then a front of the other
-abbrev pub AppendsFronts : Option (List ℕ) → Option (List ℕ) → List ℕ → List ℕ → Type 0
-AppendsFronts old new one other = (front : List ℕ) × (then_ : List ℕ) × IsFront front one × IsFront then_ other × Appends old new (front ++ then_)
+-- the one fault of a write that failed, and none where memory was refused
+abbrev pub CountsOf : Fault → (before after : Seen (List ℕ)) → Type 0
+CountsOf Read before after = ⊥
+CountsOf Write before after = CountRose before after
+CountsOf NoMemory before after = CountStays before after
+
+-- A text was being told: some of it is gained, and not all, and then the line of what broke it off is tried.
+pub record BreaksIn (why : Fault) (text : List ℕ) (before after : Seen (List ℕ)) : Type 0 where
+  pub then : Seen (List ℕ)
+  pub part : AppendsPart before.held then.held text
+  pub count : CountsOf why before then
+  pub tried : TriesLine (fault_line why) then after

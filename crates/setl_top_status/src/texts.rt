@@ -1,6 +1,6 @@
 //! The text of a source that is loaded, and a text that is written.
 ghost use Rattle.std.specs.Prelude.{◌^◌, vec_items, IfOk, IfErr, OnOk};
-ghost use Rattle.setl_top_status.specs.Seen.{seen};
+ghost use Rattle.setl_top_status.specs.Seen.{seen, seen_files};
 ghost use Rattle.setl_top_status.specs.code.Loads.{FoundText, HasText, IsStill, NotRead, NoText};
 ghost use Rattle.setl_top_status.specs.code.Writes.{Written};
 
@@ -22,8 +22,8 @@ pub fn load_source<F: Files, E: Sink>(
     err: &mut E,
 ) -> Result<Vec<u8>, Status>
     ensures loaded { IfOk result (λ source. HasText (2 ^ 24) (F.texts files.old) name.now source.items) }
-    ensures still { OnOk result (IsStill (seen F.texts F.faults files.old) (seen F.texts F.faults files.new) (seen E.held E.faults err.old) (seen E.held E.faults err.new)) }
-    ensures not_loaded { IfErr result (NoText name.now (seen F.texts F.faults files.old) (seen F.texts F.faults files.new) (seen E.held E.faults err.old) (seen E.held E.faults err.new)) }
+    ensures still { OnOk result (IsStill name.now (seen_files F.texts F.asked F.faults files.old) (seen_files F.texts F.asked F.faults files.new) (seen E.held E.calls E.faults err.old) (seen E.held E.calls E.faults err.new)) }
+    ensures not_loaded { IfErr result (NoText name.now (seen_files F.texts F.asked F.faults files.old) (seen_files F.texts F.asked F.faults files.new) (seen E.held E.calls E.faults err.old) (seen E.held E.calls E.faults err.new)) }
 {
     let mut source = Vec::new(alloc);
     match files.load(name, MAX_SOURCE, &mut source) {
@@ -44,8 +44,8 @@ pub fn load_text<F: Files, E: Sink>(
     err: &mut E,
 ) -> Result<Option<Vec<u8>>, Status>
     ensures loaded { IfOk result (λ text. FoundText vec_items most (F.texts files.old) name.now text) }
-    ensures still { OnOk result (IsStill (seen F.texts F.faults files.old) (seen F.texts F.faults files.new) (seen E.held E.faults err.old) (seen E.held E.faults err.new)) }
-    ensures not_read { IfErr result (NotRead (seen F.texts F.faults files.old) (seen F.texts F.faults files.new) (seen E.held E.faults err.old) (seen E.held E.faults err.new)) }
+    ensures still { OnOk result (IsStill name.now (seen_files F.texts F.asked F.faults files.old) (seen_files F.texts F.asked F.faults files.new) (seen E.held E.calls E.faults err.old) (seen E.held E.calls E.faults err.new)) }
+    ensures not_read { IfErr result (NotRead name.now (seen_files F.texts F.asked F.faults files.old) (seen_files F.texts F.asked F.faults files.new) (seen E.held E.calls E.faults err.old) (seen E.held E.calls E.faults err.new)) }
 {
     let mut source = Vec::new(alloc);
     match files.load(name, most, &mut source) {
@@ -58,7 +58,7 @@ pub fn load_text<F: Files, E: Sink>(
 
 /// Writes a text to the output. Where that fails, the fault's line was tried.
 pub fn write_text<O: Sink, E: Sink>(text: &[u8], out: &mut O, err: &mut E) -> Status
-    ensures { Written text.now (seen O.held O.faults out.old) (seen O.held O.faults out.new) (seen E.held E.faults err.old) (seen E.held E.faults err.new) result }
+    ensures { Written text.now (seen O.held O.calls O.faults out.old) (seen O.held O.calls O.faults out.new) (seen E.held E.calls E.faults err.old) (seen E.held E.calls E.faults err.new) result }
 {
     match write_all(out, text) {
         Ok(()) => Status::Done,

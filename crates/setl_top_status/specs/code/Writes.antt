@@ -2,7 +2,7 @@
 use Rattle.std.specs.Prelude.{◌≡◌, ℕ, List}
 use Rattle.std.specs.Io.KnownBytes.{Appends}
 use Rattle.setl_io.specs.Sink.{AppendsPart}
-use Rattle.setl_top_status.specs.Lines.{AppendsFront, fault_line}
+use Rattle.setl_top_status.specs.Lines.{TriesLine, fault_line}
 use Rattle.setl_top_status.specs.Seen.{Seen, CountRose, CountStays}
 use Rattle.setl_top_status.specs.declared.fault.Fault.TheVariants as fault
 use Rattle.setl_top_status.specs.declared.status.Status.{Status}
@@ -12,6 +12,6 @@ use Rattle.setl_top_status.specs.declared.status.Status.TheVariants as status
 -- it and not all, or memory was refused before the write.
 pub data Written (text : List ℕ) (out out' err err' : Seen (List ℕ)) : Status → Type 0 where
   all_written : Appends out.held out'.held text → CountStays out out' → err' ≡ err → Written text out out' err err' status.Done
-  write_failed : AppendsPart out.held out'.held text → CountRose out out' → AppendsFront err.held err'.held (fault_line fault.Write) → Written text out out' err err' status.WriteFault
-  write_starved : AppendsPart out.held out'.held text → CountStays out out' → AppendsFront err.held err'.held (fault_line fault.NoMemory) → Written text out out' err err' status.NoMemory
-  no_text : out' ≡ out → AppendsFront err.held err'.held (fault_line fault.NoMemory) → Written text out out' err err' status.NoMemory
+  write_failed : AppendsPart out.held out'.held text → CountRose out out' → TriesLine (fault_line fault.Write) err err' → Written text out out' err err' status.WriteFault
+  write_starved : AppendsPart out.held out'.held text → CountStays out out' → TriesLine (fault_line fault.NoMemory) err err' → Written text out out' err err' status.NoMemory
+  no_text : out' ≡ out → TriesLine (fault_line fault.NoMemory) err err' → Written text out out' err err' status.NoMemory
