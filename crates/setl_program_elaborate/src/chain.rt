@@ -2,7 +2,7 @@
 
 ghost use Rattle.std.specs.Prelude.{◌≡◌, option_map, IfOk, OnOk};
 ghost use Rattle.setl_program.specs.Expressions as spec;
-ghost use Rattle.setl_program.specs.Operators.{binary};
+ghost use Rattle.setl_program.specs.Operators.{binary, two};
 ghost use Rattle.setl_program.specs.code.Plain.{plain_expr, plain_link};
 ghost use Rattle.setl_program_elaborate.specs.Chains.{plain_chain};
 
@@ -39,27 +39,38 @@ impl Chain {
         Ok(())
     }
 
+    /// An operator over what stands here and its second operand. An error is want of memory.
+    #[inline(never)]
+    pub fn apply(&mut self, operator: Operator, second: Boxed<Expr>) -> Result<(), AllocError>
+        ensures { OnOk result (plain_chain self.new ≡ two operator (plain_chain self.old) (plain_expr second)) }
+    {
+        self.push(Link::Binary(operator, second.into_inner()))
+    }
+
     /// A binary operator over what stands here and its right operand. An error is want of memory.
+    #[inline(never)]
     pub fn binary(&mut self, op: BinaryOp, right: Boxed<Expr>) -> Result<(), AllocError>
         ensures { OnOk result (plain_chain self.new ≡ binary op (plain_chain self.old) (plain_expr right)) }
     {
         match operators::connective(op) {
-            None => self.push(Link::Binary(operators::updating(op), right.into_inner())),
+            None => self.apply(operators::updating(op), right),
             Some(connective) => self.push(Link::Connect(connective, right)),
         }
     }
 
     /// A slice of what stands here, by its bounds. An error is want of memory.
+    #[inline(never)]
     pub fn slice(&mut self, first: Boxed<Expr>, last: Option<Boxed<Expr>>) -> Result<(), AllocError>
         ensures { OnOk result (plain_chain self.new ≡ spec.with_bound (plain_chain self.old) (plain_expr first) (option_map plain_expr last)) }
     {
         match last {
-            None => self.push(Link::Binary(Operator::Tail, first.into_inner())),
+            None => self.apply(Operator::Tail, first),
             Some(last) => self.push(Link::Ternary(Operator::Slice, first, last)),
         }
     }
 
     /// The expression that was made. An error is want of memory.
+    #[inline(never)]
     pub fn finish(self, alloc: Global) -> Result<Boxed<Expr>, AllocError>
         ensures { IfOk result (λ e. plain_expr e ≡ plain_chain self) }
     {

@@ -33,6 +33,7 @@ impl<'t> Elaborator<'t> {
     }
 
     /// Enters a former that binds these names. An error is want of memory.
+    #[inline(never)]
     pub fn enter(&mut self, number: u32, names: Names) -> Result<(), AllocError>
         ensures { OnOk result (self.new ≡ inside number names self.old) }
     {
@@ -40,6 +41,7 @@ impl<'t> Elaborator<'t> {
     }
 
     /// Leaves the innermost former, and gives the names that it bound.
+    #[inline(never)]
     #[tactic(auto, using(crate::proofs::Walks::left_again))]
     pub fn leave(&mut self) -> Names
         ensures { (m : ℕ) (names : List Name) (w : Walk) → self.old ≡ inside m names w → (result ≡ names) × (self.new ≡ w) }

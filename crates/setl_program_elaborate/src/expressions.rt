@@ -77,6 +77,7 @@ impl Elaborator<'_> {
 
     /// What an `if` expression becomes. An error is want of memory.
     #[cycle(expressions)]
+    #[inline(never)]
     fn choice(
         &mut self,
         a: &TreeExpr,
@@ -88,11 +89,12 @@ impl Elaborator<'_> {
         let condition = self.expr(a)?;
         let both = beside(condition, self.expr(b))?;
         let ((condition, value), other) = beside(both, self.expr(c))?;
-        Boxed::new(self.alloc, Expr::Choose(condition, value, other))
+        makers::choice(self.alloc, condition, value, other)
     }
 
     /// What a chain of operators becomes. An error is want of memory.
     #[cycle(expressions)]
+    #[inline(never)]
     fn chain(
         &mut self,
         others: &[(BinaryOp, TreeExpr)],
@@ -111,6 +113,7 @@ impl Elaborator<'_> {
 
     /// What a comparison becomes. An error is want of memory.
     #[cycle(expressions)]
+    #[inline(never)]
     fn comparison(
         &mut self,
         a: &TreeExpr,
@@ -126,6 +129,7 @@ impl Elaborator<'_> {
 
     /// What an expression with selectors becomes. An error is want of memory.
     #[cycle(expressions)]
+    #[inline(never)]
     fn selection(&mut self, selectors: &[Selector], x: &TreeExpr) -> Result<Boxed<Expr>, AllocError>
         ensures { IfOk result (λ e. (plain_expr e, self.new) ≡ does (spec.selection (part_of x.now) (map behind_of selectors.now)) self.old) }
     {
@@ -140,6 +144,7 @@ impl Elaborator<'_> {
 
     /// What a quantifier becomes. An error is want of memory.
     #[cycle(expressions)]
+    #[inline(never)]
     fn quantified(
         &mut self,
         word: Quantifier,
@@ -151,18 +156,19 @@ impl Elaborator<'_> {
         let iterators = self.iterators(turns)?;
         let condition = self.expr(x)?;
         let word = operators::quantifier(word);
-        Boxed::new(self.alloc, Expr::Quantified(word, iterators, condition))
+        makers::quantified(self.alloc, word, iterators, condition)
     }
 
     /// What expressions become. An error is want of memory.
     #[cycle(expressions)]
+    #[inline(never)]
     pub fn exprs(&mut self, xs: &[TreeExpr]) -> Result<Items<Expr>, AllocError>
         ensures { IfOk result (λ es. (map plain_expr es, self.new) ≡ does (spec.terms (map part_of xs.now)) self.old) }
     {
         let mut all = Items::new(self.alloc);
         for x in xs {
             let made = self.expr(x)?;
-            all.push(made.into_inner())?;
+            makers::put_expr(&mut all, made)?;
         }
         Ok(all)
     }
@@ -183,14 +189,14 @@ impl Elaborator<'_> {
 
     /// What the inside of braces or brackets becomes. An error is want of memory.
     #[cycle(expressions)]
+    #[inline(never)]
     fn inner(&mut self, x: &Inner, collection: Collection) -> Result<Boxed<Expr>, AllocError>
         ensures { IfOk result (λ e. (plain_expr e, self.new) ≡ does ((inner_of x.now).term collection) self.old) }
     {
         match x {
             Inner::List(xs) => {
                 let all = self.exprs(xs.as_slice())?;
-                let operator = operators::enumeration(collection);
-                Boxed::new(self.alloc, Expr::Apply(operator, all))
+                makers::enumeration(self.alloc, collection, all)
             }
             Inner::Range(a, b, c) => {
                 let bounds = self.bounds(a.get(), b, c.get())?;
@@ -207,6 +213,7 @@ impl Elaborator<'_> {
 
     /// What the bounds of a range become. An error is want of memory.
     #[cycle(expressions)]
+    #[inline(never)]
     fn bounds(
         &mut self,
         a: &TreeExpr,
@@ -222,6 +229,7 @@ impl Elaborator<'_> {
 
     /// What a former becomes that collects an expression. An error is want of memory.
     #[cycle(expressions)]
+    #[inline(never)]
     fn former(
         &mut self,
         value: &TreeExpr,
@@ -236,14 +244,12 @@ impl Elaborator<'_> {
         let held = beside(value, self.own_iterators(turns, number))?;
         let condition = self.own_condition(condition, number, turns);
         let ((value, iterators), condition) = beside(held, condition)?;
-        Boxed::new(
-            self.alloc,
-            Expr::Former(collection, value, iterators, condition),
-        )
+        makers::former(self.alloc, collection, value, iterators, condition)
     }
 
     /// What a former becomes that collects its members. An error is want of memory.
     #[cycle(expressions)]
+    #[inline(never)]
     fn filter(
         &mut self,
         bound: &Bound,
@@ -262,6 +268,7 @@ impl Elaborator<'_> {
 
     /// What an expression becomes as the source of an iterator. An error is want of memory.
     #[cycle(expressions)]
+    #[inline(never)]
     pub fn source(&mut self, x: &TreeExpr) -> Result<(Source, Items<Expr>), AllocError>
         ensures { IfOk result (λ r. (plain_range r, self.new) ≡ does (part_of x.now).source self.old) }
     {
@@ -291,6 +298,7 @@ impl Elaborator<'_> {
 
     /// What the inside of braces or brackets becomes as the source of an iterator. An error is want of memory.
     #[cycle(expressions)]
+    #[inline(never)]
     fn inner_source(
         &mut self,
         x: &Inner,

@@ -6,14 +6,14 @@ ghost use Rattle.setl_names.specs.Occurrences as names;
 ghost use Rattle.setl_program.specs.Expressions as spec;
 ghost use Rattle.setl_program.specs.Expressions.{part_of, term_of, turn_of};
 ghost use Rattle.setl_program.specs.code.Plain.{plain_expr, plain_iterator};
-ghost use Rattle.setl_program.specs.Scope.{in_former};
+ghost use Rattle.setl_program.specs.Lists.{exprs_of};
+ghost use Rattle.setl_program.specs.Scope.{in_former, bound_by, binding_of};
 ghost use Rattle.setl_program_elaborate.specs.Elaborators.{made, does, puts};
 
 use crate::elaborator::Elaborator;
 use crate::makers;
-use crate::makers::put;
 use setl_names::Names;
-use setl_program::{Expr, Iterator};
+use setl_program::{Expr, Iterator, Source};
 use setl_program_scope::{beside, names_of_bound, names_of_turns, put_turn};
 use setl_tree::{Bound, Boxed, Expr as TreeExpr, Items, Iter, Text};
 use std::alloc::AllocError;
@@ -21,6 +21,7 @@ use std::alloc::AllocError;
 impl Elaborator<'_> {
     /// What an expression becomes inside a former that binds these names. An error is want of memory.
     #[cycle(expressions)]
+    #[inline(never)]
     pub fn expr_within(
         &mut self,
         x: &TreeExpr,
@@ -37,6 +38,7 @@ impl Elaborator<'_> {
 
     /// What the condition of a former becomes that binds these names. An error is want of memory.
     #[cycle(expressions)]
+    #[inline(never)]
     pub fn bound_condition(
         &mut self,
         x: &TreeExpr,
@@ -51,6 +53,7 @@ impl Elaborator<'_> {
 
     /// What the condition of a former with these iterators becomes, if there is one. An error is want of memory.
     #[cycle(expressions)]
+    #[inline(never)]
     pub fn own_condition(
         &mut self,
         x: &Option<Boxed<TreeExpr>>,
@@ -70,6 +73,7 @@ impl Elaborator<'_> {
 
     /// What iterators become that bind variables. An error is want of memory.
     #[cycle(expressions)]
+    #[inline(never)]
     pub fn iterators(&mut self, turns: &[Iter]) -> Result<Items<Iterator>, AllocError>
         ensures { IfOk result (λ is. (map plain_iterator is, self.new) ≡ does (spec.iterators (map turn_of turns.now)) self.old) }
     {
@@ -82,6 +86,7 @@ impl Elaborator<'_> {
 
     /// What the iterators of a former become, each of which sees the names of the ones before it. An error is want of memory.
     #[cycle(expressions)]
+    #[inline(never)]
     pub fn own_iterators(
         &mut self,
         turns: &[Iter],
@@ -100,6 +105,7 @@ impl Elaborator<'_> {
     /// What an iterator of a former becomes, which sees these names. It is put at the end. It gives the names with those
     /// that the iterator binds. An error is want of memory.
     #[cycle(expressions)]
+    #[inline(never)]
     fn own_iterator(
         &mut self,
         turn: &Iter,
@@ -120,6 +126,7 @@ impl Elaborator<'_> {
     /// What an iterator becomes, where the names that it binds are own names of the former with this number, or else
     /// variables. It is put at the end. An error is want of memory.
     #[cycle(expressions)]
+    #[inline(never)]
     fn iterator(
         &mut self,
         turn: &Iter,
@@ -129,40 +136,62 @@ impl Elaborator<'_> {
         ensures { OnOk result ((map plain_iterator all.new, self.new) ≡ puts (map plain_iterator all.old) ((turn_of turn.now).iterator former) self.old) }
     {
         match turn {
-            Iter::Over(bound, source) => put(all, self.over(former, bound, source)),
-            Iter::Image(value, map, argument) => put(all, self.image(former, value, map, argument)),
+            Iter::Over(bound, source) => {
+                let made = self.over(former, bound, source)?;
+                makers::put_iterator(all, made)
+            }
+            Iter::Image(value, map, argument) => {
+                let made = self.image(former, value, map, argument)?;
+                makers::put_iterator(all, made)
+            }
         }
     }
 
     /// What an iterator over a source becomes, where the names that it binds are own names of the former with this number,
     /// or else variables. An error is want of memory.
     #[cycle(expressions)]
+    #[inline(never)]
     pub fn over(
         &mut self,
         former: Option<u32>,
         bound: &Bound,
         source: &TreeExpr,
-    ) -> Result<Iterator, AllocError>
+    ) -> Result<Boxed<Iterator>, AllocError>
         ensures { IfOk result (λ i. (plain_iterator i, self.new) ≡ does (spec.over bound.now (part_of source.now) former) self.old) }
     {
         let (kind, sources) = self.source(source)?;
+        self.over_parts(former, bound, kind, sources)
+    }
+
+    /// An iterator over the parts of its source. An error is want of memory.
+    #[inline(never)]
+    fn over_parts(
+        &self,
+        former: Option<u32>,
+        bound: &Bound,
+        kind: Source,
+        sources: Items<Expr>,
+    ) -> Result<Boxed<Iterator>, AllocError>
+        ensures { IfOk result (λ i. plain_iterator i ≡ (binding_of bound.now kind (bound_by former self.now.scope), exprs_of (map plain_expr sources))) }
+    {
         let binding = self.scope.binding(self.alloc, former, bound, kind);
         let (sources, binding) = beside(sources, binding)?;
-        Ok(Iterator { binding, sources })
+        makers::iterator(self.alloc, binding, sources)
     }
 
     /// What an iterator over the images of a map becomes. An error is want of memory.
+    #[inline(never)]
     fn image(
         &self,
         former: Option<u32>,
         value: &Text,
         map: &Text,
         argument: &Text,
-    ) -> Result<Iterator, AllocError>
+    ) -> Result<Boxed<Iterator>, AllocError>
         ensures { IfOk result (λ i. plain_iterator i ≡ made (spec.image value.now map.now argument.now former) self.now) }
     {
         let (map, binding) = self.scope.image(former, value, map, argument)?;
         let (binding, sources) = beside(binding, makers::alone(self.alloc, Expr::Name(map)))?;
-        Ok(Iterator { binding, sources })
+        makers::iterator(self.alloc, binding, sources)
     }
 }

@@ -15,6 +15,7 @@ use std::alloc::{AllocError, Global};
 pub type Bounds = ((Boxed<Expr>, Option<Boxed<Expr>>), Boxed<Expr>);
 
 /// The one expression as a source. An error is want of memory.
+#[inline(never)]
 pub fn values(alloc: Global, value: Boxed<Expr>) -> Result<(Source, Items<Expr>), AllocError>
     ensures { IfOk result (λ r. plain_range r ≡ (Source.Values, plain_expr value ∷ [])) }
 {
@@ -64,6 +65,7 @@ fn bounded_source(collection: Collection, second: &Option<Boxed<Expr>>) -> Sourc
 }
 
 /// A range by its bounds. An error is want of memory.
+#[inline(never)]
 pub fn range(
     alloc: Global,
     collection: Collection,
@@ -78,6 +80,7 @@ pub fn range(
 }
 
 /// A range that is written directly as a source, by its bounds. An error is want of memory.
+#[inline(never)]
 pub fn range_source(
     alloc: Global,
     collection: Collection,
@@ -92,6 +95,7 @@ pub fn range_source(
 }
 
 /// One expression alone, or the tuple of several. An error is want of memory.
+#[inline(never)]
 pub fn tuple_of_several(alloc: Global, all: Items<Expr>) -> Result<Boxed<Expr>, AllocError>
     ensures { IfOk result (λ e. plain_expr e ≡ spec.tuple_of_several (map plain_expr all)) }
 {

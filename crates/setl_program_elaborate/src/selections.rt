@@ -13,13 +13,14 @@ use crate::elaborator::Elaborator;
 use crate::expressions::name_of;
 use crate::{makers, ranges};
 use setl_operators_table::Operator;
-use setl_program::{Argument, Expr, Link};
+use setl_program::{Argument, Expr};
 use setl_program_scope::beside;
 use setl_tree::{Boxed, Expr as TreeExpr, Items, Param, Passing, Selector, Text};
 use std::alloc::AllocError;
 
 impl Elaborator<'_> {
     /// What a name becomes. An error is want of memory.
+    #[inline(never)]
     pub fn name(&self, name: &Text) -> Result<Boxed<Expr>, AllocError>
         ensures { IfOk result (λ e. plain_expr e ≡ spec.named name.now self.now.scope) }
     {
@@ -29,6 +30,7 @@ impl Elaborator<'_> {
 
     /// What a chain becomes with selectors behind it. An error is want of memory.
     #[cycle(expressions)]
+    #[inline(never)]
     pub fn selected(
         &mut self,
         selectors: &[Selector],
@@ -45,6 +47,7 @@ impl Elaborator<'_> {
 
     /// Puts a selector behind a chain. An error is want of memory.
     #[cycle(expressions)]
+    #[inline(never)]
     fn applied(&mut self, selector: &Selector, all: &mut Chain) -> Result<(), AllocError>
         ensures { OnOk result ((plain_chain all.new, self.new) ≡ does ((behind_of selector.now).applied (plain_chain all.old)) self.old) }
     {
@@ -61,6 +64,7 @@ impl Elaborator<'_> {
 
     /// Puts an operator with a list in brackets behind a chain. An error is want of memory.
     #[cycle(expressions)]
+    #[inline(never)]
     fn at_list(
         &mut self,
         xs: &[TreeExpr],
@@ -70,11 +74,12 @@ impl Elaborator<'_> {
         ensures { OnOk result ((plain_chain all.new, self.new) ≡ does (spec.at_list operator (map part_of xs.now) (plain_chain all.old)) self.old) }
     {
         let list = self.listed(xs)?;
-        all.push(Link::Binary(operator, list.into_inner()))
+        all.apply(operator, list)
     }
 
     /// What a list in brackets becomes: one expression alone, or the tuple of several. An error is want of memory.
     #[cycle(expressions)]
+    #[inline(never)]
     pub fn listed(&mut self, xs: &[TreeExpr]) -> Result<Boxed<Expr>, AllocError>
         ensures { IfOk result (λ e. (plain_expr e, self.new) ≡ does (spec.listed (map part_of xs.now)) self.old) }
     {
@@ -84,6 +89,7 @@ impl Elaborator<'_> {
 
     /// What a name with selectors becomes: a call, or a selection. An error is want of memory.
     #[cycle(expressions)]
+    #[inline(never)]
     pub fn name_selection(
         &mut self,
         selectors: &[Selector],
@@ -106,6 +112,7 @@ impl Elaborator<'_> {
 
     /// What a name before a list in round brackets becomes: a call if it is a procedure's. An error is want of memory.
     #[cycle(expressions)]
+    #[inline(never)]
     fn application(&mut self, xs: &[TreeExpr], name: &Text) -> Result<Chain, AllocError>
         ensures { IfOk result (λ e. (plain_chain e, self.new) ≡ does (λ s. spec.application (procedure_of s name.now) name.now (map part_of xs.now) s) self.old) }
     {
@@ -124,6 +131,7 @@ impl Elaborator<'_> {
 
     /// What a call of the procedure at this place becomes, which has these parameters. An error is want of memory.
     #[cycle(expressions)]
+    #[inline(never)]
     pub fn call(
         &mut self,
         xs: &[TreeExpr],
@@ -138,6 +146,7 @@ impl Elaborator<'_> {
 
     /// What arguments become for these parameters. An error is want of memory.
     #[cycle(expressions)]
+    #[inline(never)]
     fn arguments(
         &mut self,
         xs: &[TreeExpr],
@@ -158,6 +167,7 @@ impl Elaborator<'_> {
 
     /// What an argument becomes, which is passed so. It is put at the end. An error is want of memory.
     #[cycle(expressions)]
+    #[inline(never)]
     fn argument(
         &mut self,
         x: &TreeExpr,
@@ -171,7 +181,7 @@ impl Elaborator<'_> {
             (Passing::Rw, Some(name)) => { all.push(Argument::Rw(self.scope.variable(name)?)) }
             (Passing::Wr, None) | (Passing::Rw, None) | (Passing::Rd, _) => {
                 let value = self.expr(x)?;
-                all.push(Argument::Rd(value.into_inner()))
+                makers::put_value(all, value)
             }
         }
     }
