@@ -239,7 +239,7 @@ impl Elaborator<'_> {
     ) -> Result<Boxed<Expr>, AllocError>
         ensures { IfOk result (λ e. (plain_expr e, self.new) ≡ does (spec.former (part_of value.now) (map turn_of turns.now) (option_map part_of condition.now) collection) self.old) }
     {
-        let (number, names) = self.opened.open_over(self.alloc, turns)?;
+        let (number, names) = self.open_over(turns)?;
         let value = self.expr_within(value, number, names)?;
         let held = beside(value, self.own_iterators(turns, number))?;
         let condition = self.own_condition(condition, number, turns);

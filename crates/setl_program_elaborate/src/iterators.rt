@@ -14,9 +14,35 @@ use crate::elaborator::Elaborator;
 use crate::makers;
 use setl_names::Names;
 use setl_program::{Expr, Iterator, Source};
-use setl_program_scope::{beside, names_of_bound, names_of_turns, put_turn};
+use setl_program_scope::{beside, names_of_bound, names_of_turns};
 use setl_tree::{Bound, Boxed, Expr as TreeExpr, Items, Iter, Text};
-use std::alloc::AllocError;
+use std::alloc::{AllocError, Global};
+
+/// No names. An error is want of memory.
+#[inline(never)]
+fn no_names(alloc: Global) -> Result<Boxed<Names>, AllocError>
+    ensures { IfOk result (λ names. names ≡ []) }
+{
+    Boxed::new(alloc, Names::new(alloc))
+}
+
+/// The names that a former binds which collects its members, each once. An error is want of memory.
+#[inline(never)]
+fn boxed_names_of_bound(alloc: Global, bound: &Bound) -> Result<Boxed<Names>, AllocError>
+    ensures { IfOk result (λ all. all ≡ in_order (names.names_of_bound bound.now)) }
+{
+    let names = names_of_bound(alloc, bound)?;
+    Boxed::new(alloc, names)
+}
+
+/// The names that iterators bind, each once. An error is want of memory.
+#[inline(never)]
+fn boxed_names_of_turns(alloc: Global, turns: &[Iter]) -> Result<Boxed<Names>, AllocError>
+    ensures { IfOk result (λ all. all ≡ in_order (spec.names_of_turns (map turn_of turns.now))) }
+{
+    let names = names_of_turns(alloc, turns)?;
+    Boxed::new(alloc, names)
+}
 
 impl Elaborator<'_> {
     /// What an expression becomes inside a former that binds these names. An error is want of memory.
@@ -26,7 +52,7 @@ impl Elaborator<'_> {
         &mut self,
         x: &TreeExpr,
         number: u32,
-        names: Names,
+        names: Boxed<Names>,
     ) -> Result<Boxed<Expr>, AllocError>
         ensures { IfOk result (λ e. (plain_expr e, self.new) ≡ does (λ s. term_of x.now (in_former number names s)) self.old) }
     {
@@ -47,7 +73,7 @@ impl Elaborator<'_> {
     ) -> Result<Boxed<Expr>, AllocError>
         ensures { IfOk result (λ e. (plain_expr e, self.new) ≡ does (λ s. term_of x.now (in_former number (in_order (names.names_of_bound bound.now)) s)) self.old) }
     {
-        let names = names_of_bound(self.alloc, bound)?;
+        let names = boxed_names_of_bound(self.alloc, bound)?;
         self.expr_within(x, number, names)
     }
 
@@ -65,7 +91,7 @@ impl Elaborator<'_> {
         match x {
             None => Ok(None),
             Some(x) => {
-                let names = names_of_turns(self.alloc, turns)?;
+                let names = boxed_names_of_turns(self.alloc, turns)?;
                 Ok(Some(self.expr_within(x.get(), number, names)?))
             }
         }
@@ -95,7 +121,8 @@ impl Elaborator<'_> {
         ensures { IfOk result (λ is. (map plain_iterator is, self.new) ≡ does (spec.own_iterators number [] (map turn_of turns.now)) self.old) }
     {
         let mut all = Items::new(self.alloc);
-        let mut seen = Names::new(self.alloc);
+        let none = no_names(self.alloc)?;
+        let mut seen = none;
         for turn in turns {
             seen = self.own_iterator(turn, number, seen, &mut all)?;
         }
@@ -110,16 +137,15 @@ impl Elaborator<'_> {
         &mut self,
         turn: &Iter,
         number: u32,
-        seen: Names,
+        seen: Boxed<Names>,
         all: &mut Items<Iterator>,
-    ) -> Result<Names, AllocError>
+    ) -> Result<Boxed<Names>, AllocError>
         ensures value { OnOk result ((map plain_iterator all.new, self.new) ≡ puts (map plain_iterator all.old) (λ s. (turn_of turn.now).iterator (Some number) (in_former number seen s)) self.old) }
         ensures names { IfOk result (λ names. names ≡ with_names seen (turn_of turn.now).names) }
     {
         self.enter(number, seen)?;
         self.iterator(turn, Some(number), all)?;
-        let mut names = self.leave();
-        put_turn(turn, &mut names)?;
+        let names = self.leave_with(turn)?;
         Ok(names)
     }
 

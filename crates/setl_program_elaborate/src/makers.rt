@@ -6,13 +6,14 @@ ghost use Rattle.setl_program.specs.Operators as spec;
 ghost use Rattle.setl_program.specs.Expressions as terms;
 ghost use Rattle.setl_program.specs.Program as plain;
 ghost use Rattle.setl_program.specs.Lists.{exprs_of, iterators_of, condition_of, block_of, otherwise};
-ghost use Rattle.setl_program.specs.code.Plain.{plain_expr, plain_binding, plain_iterator, plain_argument, plain_arguments, plain_kind, plain_stmt, plain_branch};
+ghost use Rattle.setl_program.specs.code.Plain.{plain_expr, plain_binding, plain_iterator, plain_argument, plain_arguments, plain_kind, plain_stmt, plain_branch, plain_slots};
 
 use crate::chain::Chain;
 use crate::operators;
 use setl_operators_table::Operator;
 use setl_program::{
     Argument, Binding, Branch, Collection, Expr, Iterator, Link, Quantifier, Stmt, StmtKind,
+    Variable,
 };
 use setl_tree::{Boxed, Items, Prefix, Text};
 use std::alloc::{AllocError, Global};
@@ -228,6 +229,19 @@ pub fn call(
         Err(_) => Err(AllocError),
         Ok(place) => Boxed::new(alloc, Expr::Call(place, arguments)),
     }
+}
+
+/// An assignment to a tuple of variables.
+#[inline(never)]
+pub fn parts_assignment(
+    alloc: Global,
+    slots: Items<Option<Variable>>,
+    value: Boxed<Expr>,
+) -> Result<Boxed<StmtKind>, AllocError>
+    ensures { IfOk result (λ x. plain_kind x ≡ plain.AssignParts (plain_slots slots) (plain_expr value)) }
+{
+    let value = value.into_inner();
+    Boxed::new(alloc, StmtKind::AssignParts(slots, value))
 }
 
 /// `if` with its branches.

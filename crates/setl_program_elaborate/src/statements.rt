@@ -99,8 +99,8 @@ impl Elaborator<'_> {
         let value = self.expr(value)?;
         let slots = self.scope.slots(self.alloc, None, slots);
         let (value, slots) = beside(value, slots)?;
-        let value = value.into_inner();
-        Boxed::new(self.alloc, StmtKind::AssignParts(slots, value))
+        let made = makers::parts_assignment(self.alloc, slots, value)?;
+        Ok(made)
     }
 
     /// What `from` and the like become. An error is want of memory.

@@ -1,5 +1,4 @@
-use Rattle.std.proofs.Common.{◌≡◌, ◌∙◌, List, map, Some, IfOk, ap, subst}
-use Rattle.setl_names.specs.Names.{Name, with_names}
+use Rattle.std.proofs.Common.{◌≡◌, map, Some, IfOk, subst}
 use Rattle.setl_program.specs.Program as plain
 use Rattle.setl_program.specs.Numbered.{Numbered}
 use Rattle.setl_program.specs.Scope.{Scope}
@@ -19,19 +18,17 @@ expr-returns-in-Chain t c =
 
 pub expr_within-returns : goal.expr_within-returns
 expr_within-returns t c =
-    left_with (does (term_of c.args.x.now)) c.args.number c.args.names _ c.args.self.now c.enter.new.self c.expr.new.self _ _ c.in_ok-enter.ensures c.in_ok-made.ensures (λ h. (c.leave.ensures c.args.number c.args.names _ h).1)
+    left_with (does (term_of c.args.x.now)) c.args.number c.args.names _ c.args.self.now c.enter.new.self c.expr.new.self _ _ c.in_ok-enter.ensures c.in_ok-made.ensures (λ h. c.leave.ensures c.args.number c.args.names _ h)
 
 pub own_iterator-returns-clause-value : goal.own_iterator-returns-clause-value
 own_iterator-returns-clause-value t c =
     left_with (puts (map plain_iterator c.args.all.now) ((turn_of c.args.turn.now).iterator (Some c.args.number))) c.args.number c.args.seen _ c.args.self.now c.enter.new.self c.iterator.new.self _ _
-    c.in_ok-enter.ensures c.in_ok-iterator.ensures (λ h. (c.leave-names.ensures c.args.number c.args.seen _ h).1)
+    c.in_ok-enter.ensures c.in_ok-iterator.ensures (λ h. c.leave_with.ensures.state c.args.number c.args.seen _ h)
 
 pub own_iterator-returns-clause-names : goal.own_iterator-returns-clause-names
 own_iterator-returns-clause-names t c =
-    c.in_ok-put_turn.ensures
-    ∙ ap (λ (z : List Name). with_names z (turn_of c.args.turn.now).names)
-    (c.leave-names.ensures c.args.number c.args.seen _
-    (within (puts (map plain_iterator c.args.all.now) ((turn_of c.args.turn.now).iterator (Some c.args.number))) c.args.number c.args.seen _ c.args.self.now c.enter.new.self c.iterator.new.self c.in_ok-enter.ensures c.in_ok-iterator.ensures)).0
+    c.in_ok-names.ensures.names c.args.number c.args.seen _
+    (within (puts (map plain_iterator c.args.all.now) ((turn_of c.args.turn.now).iterator (Some c.args.number))) c.args.number c.args.seen _ c.args.self.now c.enter.new.self c.iterator.new.self c.in_ok-enter.ensures c.in_ok-iterator.ensures)
 
 pub own_iterators-loop-turn-preserved : goal.own_iterators-loop-turn-preserved
 own_iterators-loop-turn-preserved t c =
