@@ -14,7 +14,7 @@ use Rattle.setl_debug_machine.specs.Runs.{RunState, run_of}
 use Rattle.setl_debug_machine.specs.Screens.{PlainRun, IsScreen}
 use Rattle.setl_debug_script.specs.declared.command.Command.{Command}
 use Rattle.setl_debug_target.specs.Screens.{Screen}
-use Rattle.setl_top_status.specs.Lines.{AppendsFront, fault_line}
+use Rattle.setl_top_status.specs.Lines.{TriesLine, fault_line}
 use Rattle.setl_top_status.specs.Seen.{Seen, CountRose, CountStays}
 use Rattle.setl_top_status.specs.declared.fault.Fault.TheVariants as fault
 use Rattle.setl_top_status.specs.declared.status.Status.TheVariants as status
@@ -41,10 +41,10 @@ module _ (s : Session) (r : PlainRun) (same : r ≡ run_in s) where
     cut_told : (c : IsCutInside shows s.script out.held out'.held) → IsTold s (take (suc c.n) s.script) (c.told ++ c.more)
     cut_told c = told_so (take (suc c.n) s.script) (c.told ++ c.more) c.next (follows_more shows s.script c.n c.c 0 c.told c.k c.more c.next c.there c.follows c.does)
 
-    unwritten_so : IsCutInside shows s.script out.held out'.held → CountRose out out' → AppendsFront err.held err'.held (fault_line fault.Write) → FollowsScript s out out' err err' status.WriteFault
+    unwritten_so : IsCutInside shows s.script out.held out'.held → CountRose out out' → TriesLine (fault_line fault.Write) err err' → FollowsScript s out out' err err' status.WriteFault
     unwritten_so c rose h = unwritten (suc c.n) (c.told ++ c.more) (length c.told + c.m) (cut_told c) (omega (arith, c.part, length-append c.told c.more)) (part_of c.told c.more c.m c.gained) rose h
 
-    starved_so : IsCut shows s.script out.held out'.held ⊎ IsCutInside shows s.script out.held out'.held → CountStays out out' → AppendsFront err.held err'.held (fault_line fault.NoMemory) → FollowsScript s out out' err err' status.NoMemory
+    starved_so : IsCut shows s.script out.held out'.held ⊎ IsCutInside shows s.script out.held out'.held → CountStays out out' → TriesLine (fault_line fault.NoMemory) err err' → FollowsScript s out out' err err' status.NoMemory
     starved_so (inl c) count h =
         let d = c.done in
         starved c.n d.told (length d.told) (told_so (take c.n s.script) d.told d.next d.follows) (omega arith) (subst (λ l. Appends out.held out'.held l) (sym (take-length d.told)) d.gained) count h
@@ -52,7 +52,7 @@ module _ (s : Session) (r : PlainRun) (same : r ≡ run_in s) where
         starved (suc c.n) (c.told ++ c.more) (length c.told + c.m) (cut_told c) (omega (arith, c.part, length-append c.told c.more)) (part_of c.told c.more c.m c.gained) count h
 
 -- no run was made
-starved_before : (s : Session) (out err err' : Seen (List ℕ)) → AppendsFront err.held err'.held (fault_line fault.NoMemory) → FollowsScript s out out err err' status.NoMemory
+starved_before : (s : Session) (out err err' : Seen (List ℕ)) → TriesLine (fault_line fault.NoMemory) err err' → FollowsScript s out out err err' status.NoMemory
 starved_before s out err err' h = starved 0 [] 0 (record { next = 0; follows = (refl, refl) }) (omega arith) (Appends-nil out.held) refl h
 
 -- ---- by the run, where one was made
@@ -72,10 +72,10 @@ module _ (s : Session) (out out' err err' : Seen (List ℕ)) where
   done_by (Ok x) made e none still = done_so s (run_of x) made out out' err err' e.0 e.1 still
   done_by (Err x) made e none still = let other : ended.Done ≡ ended.NoMemory = none.0 in absurd (cc)
 
-  pub unwritten_by : (r : Result RunState AllocError) → Made r → EndsSo r ended.WriteFault → EndsWithout r ended.WriteFault → AppendsFront err.held err'.held (fault_line fault.Write) → FollowsScript s out out' err err' status.WriteFault
+  pub unwritten_by : (r : Result RunState AllocError) → Made r → EndsSo r ended.WriteFault → EndsWithout r ended.WriteFault → TriesLine (fault_line fault.Write) err err' → FollowsScript s out out' err err' status.WriteFault
   unwritten_by (Ok x) made e none h = unwritten_so s (run_of x) made out out' err err' e.0 e.1 h
   unwritten_by (Err x) made e none h = let other : ended.WriteFault ≡ ended.NoMemory = none.0 in absurd (cc)
 
-  pub starved_by : (r : Result RunState AllocError) → Made r → EndsSo r ended.NoMemory → EndsWithout r ended.NoMemory → AppendsFront err.held err'.held (fault_line fault.NoMemory) → FollowsScript s out out' err err' status.NoMemory
+  pub starved_by : (r : Result RunState AllocError) → Made r → EndsSo r ended.NoMemory → EndsWithout r ended.NoMemory → TriesLine (fault_line fault.NoMemory) err err' → FollowsScript s out out' err err' status.NoMemory
   starved_by (Ok x) made e none h = starved_so s (run_of x) made out out' err err' e.0 e.1 h
   starved_by (Err x) made e none h = subst (λ o. FollowsScript s out o err err' status.NoMemory) (sym none.1) (starved_before s out err err' h)
