@@ -1,6 +1,7 @@
 -- How the parts of a call make its headline.
 use Rattle.std.proofs.Common.{◌≡◌, ◌⊎◌, inl, inr, ◌<◌, ℕ, List, [], ◌∷◌, ◌++◌, length, take, Some, refl, sym, ap, subst}
 use Rattle.std.specs.Io.KnownBytes.{Appends}
+use Rattle.std.proofs.KnownBytes.{Appends-nil}
 use Rattle.setl_io.specs.Files.{IsText}
 use Rattle.setl_model_runs.specs.Events as run
 use Rattle.setl_tree.specs.declared.tree.Tree.{Tree}
@@ -9,16 +10,14 @@ use Rattle.setl_machine_control.specs.Answers.{kind_of}
 use Rattle.setl_machine_control.specs.declared.end.End.{End}
 use Rattle.setl_machine_control.specs.declared.end.End.TheVariants as end
 use Rattle.setl_top_status.specs.Ends.{status_of, error_line}
-use Rattle.setl_top_status.specs.Lines.{AppendsFront, fault_line}
+use Rattle.setl_top_status.specs.Lines.{TriesLine, fault_line}
 use Rattle.setl_top_status.specs.Reasons.{reason_line}
-use Rattle.setl_top_status.specs.Seen.{Seen, CountRose, CountStays}
-use Rattle.setl_top_status.specs.code.Tells.{Tells, whole, failed, no_memory}
+use Rattle.setl_top_status.specs.Seen.{Seen, CountRose, CountStays, LoadsOnce, FailsOnce, LoadsAtMost}
+use Rattle.setl_top_status.specs.code.Tells.{Tells, whole, failed, starved as starved_in, no_memory}
 use Rattle.setl_top_status.specs.code.Writes.{Written, all_written, write_failed, write_starved, no_text}
-use Rattle.setl_top_status.specs.declared.fault.Fault.{Fault}
 use Rattle.setl_top_status.specs.declared.fault.Fault.TheVariants as fault
 use Rattle.setl_top_status.specs.declared.status.Status.{Status}
 use Rattle.setl_top_status.specs.declared.status.Status.TheVariants.{Done, Refused, Words, Stopped, Spent}
-use Rattle.setl_top_status.specs.FrontLaws.{appends_none, front_alone}
 use Rattle.setl_explain_words.specs.Texts.{stop_text}
 use Rattle.setl_explain_words.specs.declared.stop.Stop.{Stop}
 use Rattle.setl_top_status.specs.code.Loads.{failed_read, starved_read}
@@ -39,44 +38,31 @@ use Rattle.setl_top_images.specs.declared.images.Flaw.TheVariants.{TooLong}
 use Rattle.setl_top_words.specs.declared.reading.FileKind.{FileKind}
 use Rattle.setl_top_words.specs.declared.reading.FileKind.TheVariants.{Source, CodeFile}
 use Rattle.setl_top.specs.code.Tells.{TellsEnd}
-use Rattle.setl_top.specs.Headline.{Job, IsInput, IsToLoad, IsToRun, IsOfProgram, IsToList, IsToBuild, IsToExplain, IsAtRead, TellsRefusal, Answers, faulty_words, refused, code_refused, checked, listed, built, too_long_built, explained, no_fault, stop_told, run_ended, UpToWrite, no_program, at_state, in_print, in_write, in_listing, in_code_file, in_explanation, in_stop, load_failed, read_failed, no_such_watcher, TellsFault, LeavesRest, IsQuiet, at_work, at_end, Ended, ReadFailed, WriteFailed, MemoryFailed, print_failed, out_failed, err_failed, InputLeft, untouched, read_from, Headline}
+use Rattle.setl_top.specs.Headline.{Job, IsInput, IsToLoad, IsToRun, IsOfProgram, IsToList, IsToBuild, IsToExplain, IsAtRead, TellsRefusal, Answers, faulty_words, refused, code_refused, checked, listed, built, too_long_built, explained, no_fault, stop_told, run_ended, UpToWrite, no_program, at_state, in_print, in_write, in_listing, in_code_file, in_explanation, in_stop, load_failed, read_failed, no_such_watcher, LeavesRest, LoadsAsked, loads_it, loads_none, IsQuiet, at_work, untold, at_end, Ended, ReadFailed, WriteFailed, MemoryFailed, print_failed, out_failed, err_failed, InputLeft, not_read as run_not_read, read_from, Headline}
 use Rattle.setl_top.specs.Outside.{Outside}
 use Rattle.setl_top.specs.Watching.{asked_for, IsThere, no_watcher_line, all_told, reports_of}
 use Rattle.setl_watch.specs.Watches.{Watched, watched}
-use Rattle.setl_top_words.specs.Words.{Options, IsFaulty, Spells, HasFile, watched_by, Command, Run, Check, Code, Build, Explain, TellStop}
+use Rattle.setl_top_words.specs.Words.{Options, IsFaulty, Spells, HasFile, watched_by, Command, Run, Check, Code, Build, Explain, TellStop, OneCommand}
 use Rattle.setl_top_words.specs.Told.{TellsFaulty}
 
--- a fault's own line, and nothing before it
-pub fault_alone : (before after : Outside) (why : Fault) → AppendsFront before.error_output.held after.error_output.held (fault_line why) → TellsFault before after [] why
-fault_alone before after why h = front_alone before.error_output.held after.error_output.held [] (fault_line why) h
-
 -- the last line of an end was told, or not
-pub told : (words : List (List ℕ)) (before after : Outside) (status : Status) (out err : List ℕ) → (Ended words before after status → Headline words before after status) → Answers words before status out err after.input.held → Appends before.output.held after.output.held out → IsQuiet before after → (r : Status) → Tells status err before.error_output after.error_output r → Headline words before after r
-told words before after status out err ends a o q _ (whole h k) =
-    ends (record { out = out; err = err; answer = a; out_gained = o; err_gained = h; quiet = q; told = k })
-told words before after status out err ends a o q _ (failed rose h) = record {
-  out = out;
-  telling = err;
-  cause = err_failed out err (record { status = status; answer = a; rose = rose; quiet = q });
-  out_gained = o;
-  err_gained = h;
-}
-told words before after status out err ends a o q _ (no_memory h) = record {
-  out = out;
-  telling = err;
-  cause = at_end status out err a;
-  out_gained = o;
-  err_gained = h;
-  quiet = q;
-}
+pub told : (words : List (List ℕ)) (before after : Outside) (status : Status) (out err : List ℕ) → (Ended words before after status → Headline words before after status) → Answers words before status out err after.input.held → Appends before.output.held after.output.held out → IsQuiet words before after → (r : Status) → Tells status err before.error_output after.error_output r → Headline words before after r
+told words before after status out err ends a o q _ (whole h k s) =
+    ends (record { out = out; err = err; answer = a; out_gained = o; err_gained = h; quiet = q; told = k; silent = s })
+told words before after status out err ends a o q _ (failed h) =
+    record { out = out; cause = err_failed out err (record { status = status; answer = a; fails = h; quiet = q }); out_gained = o }
+told words before after status out err ends a o q _ (starved_in h) =
+    record { out = out; cause = at_end status out err a h; out_gained = o; files = inl q.files; input = q.input; output = q.output }
+told words before after status out err ends a o q _ (no_memory h) =
+    record { out = out; cause = untold status out err a h; out_gained = o; files = inl q.files; input = q.input; output = q.output }
 
 -- ---- where the input and the output are as before
 
 -- nothing was added, where nothing changed
 pub appends_same : (a b : Seen (List ℕ)) → b ≡ a → Appends a.held b.held []
-appends_same a b e = subst (λ (c : Seen (List ℕ)). Appends a.held c.held []) (sym e) (appends_none a.held)
+appends_same a b e = subst (λ (c : Seen (List ℕ)). Appends a.held c.held []) (sym e) (Appends-nil a.held)
 
--- and no count rose
+-- and no fault was counted
 pub count_same : {A : Type 0} (a b : Seen A) → b ≡ a → CountStays a b
 count_same {A = A} a b e = ap (λ (c : Seen A). c.faults) e
 
@@ -84,48 +70,72 @@ count_same {A = A} a b e = ap (λ (c : Seen A). c.faults) e
 pub held_same : {A : Type 0} (a b : Seen A) → b ≡ a → b.held ≡ a.held
 held_same {A = A} a b e = ap (λ (c : Seen A). c.held) e
 
-pub quiet_where : (before after : Outside) → CountStays before.files after.files → LeavesRest before after → IsQuiet before after
-quiet_where before after f rest =
+pub quiet_where : (words : List (List ℕ)) (before after : Outside) → LoadsAsked words before after → LeavesRest before after → IsQuiet words before after
+quiet_where words before after f rest =
     record { files = f; input = count_same before.input after.input rest.input; output = count_same before.output after.output rest.output }
 
+-- ---- the one load
+
+-- the file that a command has was loaded
+pub loads : (words : List (List ℕ)) (before after : Outside) (command : Command) (name : List ℕ) → Spells words command → HasFile command name → IsThere (watched_by command) before.watchers → LoadsOnce name before.files after.files → LoadsAsked words before after
+loads words before after command name s f there once = loads_it name (record { command = command; spelled = s; file = f; there = there }) once
+
+-- or memory was refused before
+pub loads_at_most : (words : List (List ℕ)) (before after : Outside) (command : Command) (name : List ℕ) → Spells words command → HasFile command name → IsThere (watched_by command) before.watchers → LoadsAtMost name before.files after.files → LoadsAsked words before after ⊎ (after.files ≡ before.files)
+loads_at_most words before after command name s f there (inl once) = inl (loads words before after command name s f there once)
+loads_at_most words before after command name s f there (inr same) = inr same
+
+-- it failed
+pub load_fails : (words : List (List ℕ)) (before after : Outside) (command : Command) (name : List ℕ) → Spells words command → HasFile command name → IsThere (watched_by command) before.watchers → LeavesRest before after → FailsOnce name before.files after.files → TriesLine (fault_line fault.Read) before.error_output after.error_output → ReadFailed words before after
+load_fails words before after command name s f there rest once h = record {
+  out = [];
+  cause = load_failed (record { name = name; asked = record { command = command; spelled = s; file = f; there = there }; failed = once; input = rest.input; output = rest.output });
+  out_gained = appends_same before.output after.output rest.output;
+  tried = h;
+}
+
+-- words that spell a command without a file ask for none
+pub no_file : OneCommand → (words : List (List ℕ)) (before : Outside) (command : Command) → Spells words command → ((name : List ℕ) → HasFile command name → ⊥) → (name : List ℕ) → IsToLoad words before name → ⊥
+no_file one words before command s none name a = none name (subst (λ (c : Command). HasFile c name) (one words a.command command a.spelled s) a.file)
+
+-- ---- where nothing is written
+
 -- the last line was told, or not
-pub told_alone : (words : List (List ℕ)) (before after : Outside) (status : Status) (err : List ℕ) → (Ended words before after status → Headline words before after status) → Answers words before status [] err before.input.held → CountStays before.files after.files → LeavesRest before after → (r : Status) → Tells status err before.error_output after.error_output r → Headline words before after r
+pub told_alone : (words : List (List ℕ)) (before after : Outside) (status : Status) (err : List ℕ) → (Ended words before after status → Headline words before after status) → Answers words before status [] err before.input.held → LoadsAsked words before after → LeavesRest before after → (r : Status) → Tells status err before.error_output after.error_output r → Headline words before after r
 told_alone words before after status err ends a f rest r t =
     let answer = subst (Answers words before status [] err) (sym (held_same before.input after.input rest.input)) a in
-    told words before after status [] err ends answer (appends_same before.output after.output rest.output) (quiet_where before after f rest) r t
+    told words before after status [] err ends answer (appends_same before.output after.output rest.output) (quiet_where words before after f rest) r t
 
 -- memory was refused before anything was told
-pub starved : (words : List (List ℕ)) (before after : Outside) → CountStays before.files after.files → LeavesRest before after → AppendsFront before.error_output.held after.error_output.held (fault_line fault.NoMemory) → MemoryFailed words before after
+pub starved : (words : List (List ℕ)) (before after : Outside) → LoadsAsked words before after ⊎ (after.files ≡ before.files) → LeavesRest before after → TriesLine (fault_line fault.NoMemory) before.error_output after.error_output → MemoryFailed words before after
 starved words before after f rest h = record {
   out = [];
-  telling = [];
-  cause = at_work [] no_program;
+  cause = at_work [] no_program h;
   out_gained = appends_same before.output after.output rest.output;
-  err_gained = fault_alone before after fault.NoMemory h;
-  quiet = quiet_where before after f rest;
+  files = f;
+  input = count_same before.input after.input rest.input;
+  output = count_same before.output after.output rest.output;
 }
 
 -- what is told of faulty words was told, or not
-pub faulty_ends : (words : List (List ℕ)) (before after : Outside) (text : List ℕ) → IsFaulty words → TellsFaulty words text → CountStays before.files after.files → LeavesRest before after → (r : Status) → Tells Words text before.error_output after.error_output r → Headline words before after r
-faulty_ends words before after text h tells f rest r t = told_alone words before after Words text (λ e. e) (faulty_words text h tells) f rest r t
+pub faulty_ends : (words : List (List ℕ)) (before after : Outside) (text : List ℕ) → IsFaulty words → TellsFaulty words text → after.files ≡ before.files → LeavesRest before after → (r : Status) → Tells Words text before.error_output after.error_output r → Headline words before after r
+faulty_ends words before after text h tells f rest r t =
+    told_alone words before after Words text (λ e. e) (faulty_words text h tells) (loads_none (λ name a. h a.command a.spelled) f) rest r t
 
 -- what is told where the watcher that is asked for isn't there was told, or not
-pub no_watcher_ends : (words : List (List ℕ)) (before after : Outside) (command : Command) → Spells words command → (IsThere (watched_by command) before.watchers → ⊥) → CountStays before.files after.files → LeavesRest before after → (r : Status) → Tells Words no_watcher_line before.error_output after.error_output r → Headline words before after r
-no_watcher_ends words before after command s none f rest r t = told_alone words before after Words no_watcher_line (λ e. e) (no_such_watcher command s none) f rest r t
+pub no_watcher_ends : OneCommand → (words : List (List ℕ)) (before after : Outside) (command : Command) → Spells words command → (IsThere (watched_by command) before.watchers → ⊥) → after.files ≡ before.files → LeavesRest before after → (r : Status) → Tells Words no_watcher_line before.error_output after.error_output r → Headline words before after r
+no_watcher_ends one words before after command s none f rest r t =
+    let unasked : (name : List ℕ) → IsToLoad words before name → ⊥ = λ name a. none (subst (λ (c : Command). IsThere (watched_by c) before.watchers) (one words a.command command a.spelled s) a.there) in
+    told_alone words before after Words no_watcher_line (λ e. e) (no_such_watcher command s none) (loads_none unasked f) rest r t
 
 -- a source wasn't loaded
 pub not_loaded : (words : List (List ℕ)) (before after : Outside) (command : Command) (name : List ℕ) → Spells words command → HasFile command name → TellsRefusal command → IsThere (watched_by command) before.watchers → LeavesRest before after → (r : Status) → NotLoaded name before.files after.files before.error_output after.error_output r → Headline words before after r
 not_loaded words before after command name s f told_there there rest _ (not_accepted source reason r t why e h) =
     let line : List ℕ = reason_line reason in
     let load : IsToLoad words before name = record { command = command; spelled = s; file = f; there = there } in
-    told_alone words before after Refused (line ++ 10 ∷ []) (λ e. e) (refused line (record { name = name; source = source; asked = load; tells = told_there; text = t; refusal = record { reason = reason; refused = why; tells = refl } })) e rest r h
-not_loaded words before after command name s f told_there there rest _ (not_read rose h) = record {
-  out = [];
-  cause = load_failed (record { name = name; asked = record { command = command; spelled = s; file = f; there = there }; rose = rose; input = rest.input; output = rest.output });
-  out_gained = appends_same before.output after.output rest.output;
-  err_gained = fault_alone before after fault.Read h;
-}
-not_loaded words before after command name s f told_there there rest _ (no_room e h) = starved words before after e rest h
+    told_alone words before after Refused (line ++ 10 ∷ []) (λ e. e) (refused line (record { name = name; source = source; asked = load; tells = told_there; text = t; refusal = record { reason = reason; refused = why; tells = refl } })) (loads_it name load e) rest r h
+not_loaded words before after command name s f told_there there rest _ (not_read once h) = load_fails words before after command name s f there rest once h
+not_loaded words before after command name s f told_there there rest _ (no_room e h) = starved words before after (loads_at_most words before after command name s f there e) rest h
 
 -- ---- runs
 
@@ -169,7 +179,7 @@ module _ (words : List (List ℕ)) (before after : Outside) (heard : Watched) (k
   }
 
   -- a run came to its end
-  run_told : (end : run.End) (status : Status) → status_of end ≡ Some status → RunsTo l.runnable asked from to end → (Ended words before after status → Headline words before after status) → CountStays before.files after.files → (r : Status) → Tells status (all_told heard ++ error_line end) before.error_output after.error_output r → Headline words before after r
+  run_told : (end : run.End) (status : Status) → status_of end ≡ Some status → RunsTo l.runnable asked from to end → (Ended words before after status → Headline words before after status) → LoadsAsked words before after → (r : Status) → Tells status (all_told heard ++ error_line end) before.error_output after.error_output r → Headline words before after r
   run_told end status how x ends f r t =
       let a = to_be_run x.input x.known in
       let line : List ℕ = reports_of (job x.input).watchers x.means.events ++ error_line end in
@@ -177,45 +187,43 @@ module _ (words : List (List ℕ)) (before after : Outside) (heard : Watched) (k
       told words before after status x.out line ends (run_ended status x.out line after.input.held (record { job = job x.input; asked = a; end = end; ends = how; means = x.means; leaves = x.left; tells = refl })) x.gained (record { files = f; input = x.input_count; output = x.out_count }) r same
 
   -- it was broken off
-  run_unread : RunsToRead l.runnable asked from to → CountRose before.input after.input → CountStays before.output after.output → CountStays before.files after.files → AppendsFront before.error_output.held after.error_output.held (fault_line fault.Read) → ReadFailed words before after
+  run_unread : RunsToRead l.runnable asked from to → CountRose before.input after.input → CountStays before.output after.output → LoadsAsked words before after → TriesLine (fault_line fault.Read) before.error_output after.error_output → ReadFailed words before after
   run_unread x rose still f h = record {
     out = x.out;
     cause = read_failed x.out (record { rose = rose; reading = record { job = job x.input; asked = to_be_run x.input x.known; at = x.at }; files = f; output = still });
     out_gained = x.gained;
-    err_gained = fault_alone before after fault.Read h;
+    tried = h;
   }
 
-  run_unwritten : WritesInto l.runnable asked from to → CountRose before.output after.output → CountStays before.input after.input → CountStays before.files after.files → AppendsFront before.error_output.held after.error_output.held (fault_line fault.Write) → WriteFailed words before after
+  run_unwritten : WritesInto l.runnable asked from to → CountRose before.output after.output → CountStays before.input after.input → LoadsAsked words before after → TriesLine (fault_line fault.Write) before.error_output after.error_output → WriteFailed words before after
   run_unwritten w rose still f h =
       let x = w.into in
       record {
         out = x.out ++ take x.n x.line;
-        telling = [];
-        cause = print_failed x.out x.line x.n (record { rose = rose; printing = record { job = job x.input; asked = to_be_run x.input x.known; left = x.still; at = x.at }; part = x.part; leaves = w.left; files = f; input = still });
+        cause = print_failed x.out x.line x.n (record { rose = rose; printing = record { job = job x.input; asked = to_be_run x.input x.known; left = x.still; at = x.at }; part = x.part; leaves = w.left; files = f; input = still; tried = h });
         out_gained = x.gained;
-        err_gained = fault_alone before after fault.Write h;
       }
 
-  run_starved : RunsInto l.runnable asked from to ⊎ RunsUpTo l.runnable asked from to → IsQuiet before after → AppendsFront before.error_output.held after.error_output.held (fault_line fault.NoMemory) → MemoryFailed words before after
+  run_starved : RunsInto l.runnable asked from to ⊎ RunsUpTo l.runnable asked from to → IsQuiet words before after → TriesLine (fault_line fault.NoMemory) before.error_output after.error_output → MemoryFailed words before after
   run_starved (inl x) quiet h = record {
     out = x.out ++ take x.n x.line;
-    telling = [];
-    cause = at_work (x.out ++ take x.n x.line) (in_print x.out x.line x.n (record { job = job x.input; asked = to_be_run x.input x.known; left = x.still; at = x.at }) x.part);
+    cause = at_work (x.out ++ take x.n x.line) (in_print x.out x.line x.n (record { job = job x.input; asked = to_be_run x.input x.known; left = x.still; at = x.at }) x.part) h;
     out_gained = x.gained;
-    err_gained = fault_alone before after fault.NoMemory h;
-    quiet = quiet;
+    files = inl quiet.files;
+    input = quiet.input;
+    output = quiet.output;
   }
   run_starved (inr x) quiet h = record {
     out = x.out;
-    telling = [];
-    cause = at_work x.out (at_state x.out (record { job = job x.input; asked = to_be_run x.input x.known; at = x.at }));
+    cause = at_work x.out (at_state x.out (record { job = job x.input; asked = to_be_run x.input x.known; at = x.at })) h;
     out_gained = x.gained;
-    err_gained = fault_alone before after fault.NoMemory h;
-    quiet = quiet;
+    files = inl quiet.files;
+    input = quiet.input;
+    output = quiet.output;
   }
 
   -- the run of what was loaded, and the line that tells its end
-  pub run_ends : (e : End) → Runs l.runnable asked from to e → CountStays before.files after.files → (r : Status) → TellsEnd (counted asked l.runnable) heard e before.error_output after.error_output r → Headline words before after r
+  pub run_ends : (e : End) → Runs l.runnable asked from to e → LoadsAsked words before after → (r : Status) → TellsEnd (counted asked l.runnable) heard e before.error_output after.error_output r → Headline words before after r
   run_ends end.Done x f r t = run_told run.Done Done refl x (λ y. y) f r t
   run_ends (end.Stopped why line) x f r t = run_told (run.Stopped (kind_of (counted asked l.runnable) why) line) Stopped refl x (λ y. y) f r t
   run_ends end.Spent x f r t = run_told run.Spent Spent refl x (λ y. y) f r t
@@ -227,7 +235,7 @@ module _ (words : List (List ℕ)) (before after : Outside) (heard : Watched) (k
 
   -- what it took of the input
   pub run_takes : TakesInput l.runnable asked from to → InputLeft words before after
-  run_takes (inl same) = untouched same
+  run_takes (inl same) = run_not_read kind asked name s there same
   run_takes (inr x) =
       let reading : IsAtRead words before x.out = record { job = job x.input; asked = to_be_run x.input x.known; at = x.at } in
       read_from (record { out = x.out; more = x.more; taken = x.taken; reading = reading; gained = x.gained; takes = x.consumed })
@@ -235,14 +243,9 @@ module _ (words : List (List ℕ)) (before after : Outside) (heard : Watched) (k
 -- a code file wasn't made ready
 not_code : (words : List (List ℕ)) (before after : Outside) (asked : Options) (name : List ℕ) → Spells words (Run CodeFile asked name) → IsThere asked.watch before.watchers → LeavesRest before after → (r : Status) → NotCode name before.files after.files before.error_output after.error_output r → Headline words before after r
 not_code words before after asked name s there rest _ (flawed_so bytes flaw r t why e h) =
-    told_alone words before after Refused (flaw_line flaw ++ 10 ∷ []) (λ x. x) (code_refused (flaw_line flaw) (record { options = asked; name = name; bytes = bytes; spelled = s; there = there; text = t; refusal = record { flaw = flaw; flawed = why; tells = refl } })) e rest r h
-not_code words before after asked name s there rest _ (unread_so _ (failed_read rose h)) = record {
-  out = [];
-  cause = load_failed (record { name = name; asked = record { command = Run CodeFile asked name; spelled = s; file = refl; there = there }; rose = rose; input = rest.input; output = rest.output });
-  out_gained = appends_same before.output after.output rest.output;
-  err_gained = fault_alone before after fault.Read h;
-}
-not_code words before after asked name s there rest _ (unread_so _ (starved_read e h)) = starved words before after e rest h
+    told_alone words before after Refused (flaw_line flaw ++ 10 ∷ []) (λ x. x) (code_refused (flaw_line flaw) (record { options = asked; name = name; bytes = bytes; spelled = s; there = there; text = t; refusal = record { flaw = flaw; flawed = why; tells = refl } })) (loads words before after (Run CodeFile asked name) name s refl there e) rest r h
+not_code words before after asked name s there rest _ (unread_so _ (failed_read once h)) = load_fails words before after (Run CodeFile asked name) name s refl there rest once h
+not_code words before after asked name s there rest _ (unread_so _ (starved_read e h)) = starved words before after (loads_at_most words before after (Run CodeFile asked name) name s refl there e) rest h
 
 -- what a file holds wasn't made ready
 pub not_ready : (words : List (List ℕ)) (before after : Outside) (kind : FileKind) (asked : Options) (name : List ℕ) → Spells words (Run kind asked name) → IsThere asked.watch before.watchers → LeavesRest before after → (r : Status) → NotReady kind name before.files after.files before.error_output after.error_output r → Headline words before after r
@@ -263,13 +266,14 @@ check_ends words before after name s rest _ (checked_so tree l still) = record {
   answer = subst (Answers words before Done [] []) (sym (held_same before.input after.input rest.input)) (checked (of_program words before Check name tree s l));
   out_gained = appends_same before.output after.output rest.output;
   err_gained = appends_same before.error_output after.error_output still.same;
-  quiet = quiet_where before after still.count rest;
+  quiet = quiet_where words before after (loads words before after (Check name) name s refl tt still.load) rest;
   told = count_same before.error_output after.error_output still.same;
+  silent = λ _. still.same;
 }
 check_ends words before after name s rest r (not_checked _ h) = not_loaded words before after (Check name) name s refl tt tt rest r h
 
 -- a text that the answer is was written, or not
-pub written_ends : (words : List (List ℕ)) (before after : Outside) (text : List ℕ) → Answers words before Done text [] before.input.held → ((n : ℕ) → n < length text → UpToWrite words before (take n text)) → after.input ≡ before.input → CountStays before.files after.files → (r : Status) → Written text before.output after.output before.error_output after.error_output r → Headline words before after r
+pub written_ends : (words : List (List ℕ)) (before after : Outside) (text : List ℕ) → Answers words before Done text [] before.input.held → ((n : ℕ) → n < length text → UpToWrite words before (take n text)) → after.input ≡ before.input → LoadsAsked words before after → (r : Status) → Written text before.output after.output before.error_output after.error_output r → Headline words before after r
 written_ends words before after text a part_of same files _ (all_written gained count still) = record {
   out = text;
   err = [];
@@ -278,45 +282,44 @@ written_ends words before after text a part_of same files _ (all_written gained 
   err_gained = appends_same before.error_output after.error_output still;
   quiet = record { files = files; input = count_same before.input after.input same; output = count };
   told = count_same before.error_output after.error_output still;
+  silent = λ _. still;
 }
 written_ends words before after text a part_of same files _ (write_failed part rose h) = record {
   out = take part.0 text;
-  telling = [];
-  cause = out_failed (take part.0 text) (record { rose = rose; writing = part_of part.0 part.1; files = files; input = same });
+  cause = out_failed (take part.0 text) (record { rose = rose; writing = part_of part.0 part.1; files = files; input = same; tried = h });
   out_gained = part.2;
-  err_gained = fault_alone before after fault.Write h;
 }
 written_ends words before after text a part_of same files _ (write_starved part count h) = record {
   out = take part.0 text;
-  telling = [];
-  cause = at_work (take part.0 text) (in_write (take part.0 text) (part_of part.0 part.1));
+  cause = at_work (take part.0 text) (in_write (take part.0 text) (part_of part.0 part.1)) h;
   out_gained = part.2;
-  err_gained = fault_alone before after fault.NoMemory h;
-  quiet = record { files = files; input = count_same before.input after.input same; output = count };
+  files = inl files;
+  input = count_same before.input after.input same;
+  output = count;
 }
-written_ends words before after text a part_of same files _ (no_text none h) = starved words before after files (record { input = same; output = none }) h
+written_ends words before after text a part_of same files _ (no_text none h) = starved words before after (inl files) (record { input = same; output = none }) h
 
 -- a listing of a file, which leaves the input alone
 pub list_ends : (words : List (List ℕ)) (before after : Outside) (name : List ℕ) → Spells words (Code name) → after.input ≡ before.input → (r : Status) → Lists name before.files after.files before.output after.output before.error_output after.error_output r → Headline words before after r
 list_ends words before after name s same r (listed_so tree _ l files w) =
     let a : IsToList words before w.text = record { asked = of_program words before Code name tree s l; is_listing = w.is_listing } in
-    written_ends words before after w.text (listed w.text a) (λ n. in_listing w.text n a) same files r w.written
+    written_ends words before after w.text (listed w.text a) (λ n. in_listing w.text n a) same (loads words before after (Code name) name s refl tt files) r w.written
 list_ends words before after name s same r (not_listed _ h still) = not_loaded words before after (Code name) name s refl tt tt (record { input = same; output = still }) r h
 
 -- a build of a file, which leaves the input alone
 pub build_ends : (words : List (List ℕ)) (before after : Outside) (name : List ℕ) → Spells words (Build name) → after.input ≡ before.input → (r : Status) → Builds name before.files after.files before.output after.output before.error_output after.error_output r → Headline words before after r
 build_ends words before after name s same r (built_so tree _ l files (code_written bytes _ is w)) =
     let a : IsToBuild words before bytes = record { asked = of_program words before Build name tree s l; is_built = is } in
-    written_ends words before after bytes (built bytes a) (λ n. in_code_file bytes n a) same files r w
+    written_ends words before after bytes (built bytes a) (λ n. in_code_file bytes n a) same (loads words before after (Build name) name s refl tt files) r w
 build_ends words before after name s same r (built_so tree _ l files (code_too_long _ long still t)) =
-    told_alone words before after Refused (flaw_line TooLong ++ 10 ∷ []) (λ x. x) (too_long_built (of_program words before Build name tree s l) long) files (record { input = same; output = still }) r t
-build_ends words before after name s same _ (built_so tree _ l files (code_starved still h)) = starved words before after files (record { input = same; output = still }) h
+    told_alone words before after Refused (flaw_line TooLong ++ 10 ∷ []) (λ x. x) (too_long_built (of_program words before Build name tree s l) long) (loads words before after (Build name) name s refl tt files) (record { input = same; output = still }) r t
+build_ends words before after name s same _ (built_so tree _ l files (code_starved still h)) = starved words before after (inl (loads words before after (Build name) name s refl tt files)) (record { input = same; output = still }) h
 build_ends words before after name s same r (not_built _ h still) = not_loaded words before after (Build name) name s refl tt tt (record { input = same; output = still }) r h
 
 -- ---- explanations
 
 -- an explanation that was to be written, of a source that is refused
-explanation_ends : (words : List (List ℕ)) (before after : Outside) (text : List ℕ) → IsToExplain words before text → after.input ≡ before.input → CountStays before.files after.files → (w : Status) → Written text before.output after.output before.error_output after.error_output w → (r : Status) → r ≡ refused_if_done w → Headline words before after r
+explanation_ends : (words : List (List ℕ)) (before after : Outside) (text : List ℕ) → IsToExplain words before text → after.input ≡ before.input → LoadsAsked words before after → (w : Status) → Written text before.output after.output before.error_output after.error_output w → (r : Status) → r ≡ refused_if_done w → Headline words before after r
 explanation_ends words before after text a same files _ (all_written gained count still) r e = subst (Headline words before after) (sym e) (record {
   out = text;
   err = [];
@@ -325,59 +328,55 @@ explanation_ends words before after text a same files _ (all_written gained coun
   err_gained = appends_same before.error_output after.error_output still;
   quiet = record { files = files; input = count_same before.input after.input same; output = count };
   told = count_same before.error_output after.error_output still;
+  silent = λ _. still;
 })
 explanation_ends words before after text a same files _ (write_failed part rose h) r e = subst (Headline words before after) (sym e) (record {
   out = take part.0 text;
-  telling = [];
-  cause = out_failed (take part.0 text) (record { rose = rose; writing = in_explanation text part.0 a part.1; files = files; input = same });
+  cause = out_failed (take part.0 text) (record { rose = rose; writing = in_explanation text part.0 a part.1; files = files; input = same; tried = h });
   out_gained = part.2;
-  err_gained = fault_alone before after fault.Write h;
 })
 explanation_ends words before after text a same files _ (write_starved part count h) r e = subst (Headline words before after) (sym e) (record {
   out = take part.0 text;
-  telling = [];
-  cause = at_work (take part.0 text) (in_write (take part.0 text) (in_explanation text part.0 a part.1));
+  cause = at_work (take part.0 text) (in_write (take part.0 text) (in_explanation text part.0 a part.1)) h;
   out_gained = part.2;
-  err_gained = fault_alone before after fault.NoMemory h;
-  quiet = record { files = files; input = count_same before.input after.input same; output = count };
+  files = inl files;
+  input = count_same before.input after.input same;
+  output = count;
 })
-explanation_ends words before after text a same files _ (no_text none h) r e = subst (Headline words before after) (sym e) (starved words before after files (record { input = same; output = none }) h)
+explanation_ends words before after text a same files _ (no_text none h) r e = subst (Headline words before after) (sym e) (starved words before after (inl files) (record { input = same; output = none }) h)
 
 module _ (words : List (List ℕ)) (before after : Outside) (name : List ℕ) (s : Spells words (Explain name)) (same : after.input ≡ before.input) where
   -- why a source is refused was to be written
-  reason_ends : (source : List ℕ) (why : Reason) → IsText before.files.held name source → IsRefusedFor source why → ((text : List ℕ) → IsExplained source why text → IsToExplain words before text) → CountStays before.files after.files → (r : Status) → WritesExplanation source why before.output after.output before.error_output after.error_output r → Headline words before after r
+  reason_ends : (source : List ℕ) (why : Reason) → IsText before.files.held name source → IsRefusedFor source why → ((text : List ℕ) → IsExplained source why text → IsToExplain words before text) → LoadsAsked words before after → (r : Status) → WritesExplanation source why before.output after.output before.error_output after.error_output r → Headline words before after r
   reason_ends source why t refused_so makes files r (explained_so text w _ is written e) = explanation_ends words before after text (makes text is) same files w written r e
-  reason_ends source why t refused_so makes files _ (starved_of none h) = starved words before after files (record { input = same; output = none }) h
+  reason_ends source why t refused_so makes files _ (starved_of none h) = starved words before after (inl files) (record { input = same; output = none }) h
 
   to_explain : (source : List ℕ) (why : Reason) → IsText before.files.held name source → IsRefusedFor source why → (text : List ℕ) → IsExplained source why text → IsToExplain words before text
   to_explain source why t refused_so text is = record { name = name; source = source; reason = why; spelled = s; text_of = t; refused_for = refused_so; is_explained = is }
 
   -- a source was to be explained
-  text_ends : (source : List ℕ) → IsText before.files.held name source → CountStays before.files after.files → (r : Status) → ExplainsText source before.output after.output before.error_output after.error_output r → Headline words before after r
+  text_ends : (source : List ℕ) → IsText before.files.held name source → LoadsAsked words before after → (r : Status) → ExplainsText source before.output after.output before.error_output after.error_output r → Headline words before after r
   text_ends source t files _ (no_fault_in tree p none still) = record {
     out = [];
     err = [];
     answer = subst (Answers words before Done [] []) (sym (held_same before.input after.input same)) (no_fault (record { name = name; source = source; tree = tree; spelled = s; text = t; is_program = p }));
     out_gained = appends_same before.output after.output none;
     err_gained = appends_same before.error_output after.error_output still;
-    quiet = quiet_where before after files (record { input = same; output = none });
+    quiet = quiet_where words before after files (record { input = same; output = none });
     told = count_same before.error_output after.error_output still;
+    silent = λ _. still;
   }
   text_ends source t files r (refused_for why _ refused_so w) = reason_ends source why t refused_so (to_explain source why t refused_so) files r w
-  text_ends source t files _ (not_known none h) = starved words before after files (record { input = same; output = none }) h
+  text_ends source t files _ (not_known none h) = starved words before after (inl files) (record { input = same; output = none }) h
 
   -- an explanation of a file, which leaves the input alone
   pub explain_ends : (r : Status) → Explains name before.files after.files before.output after.output before.error_output after.error_output r → Headline words before after r
-  explain_ends r (of_text source _ t files w) = text_ends source t files r w
-  explain_ends r (of_long source _ t long files w) = reason_ends source reason.TooLong t long (to_explain source reason.TooLong t long) files r w
-  explain_ends _ (not_there (failed_read rose h) none) = record {
-    out = [];
-    cause = load_failed (record { name = name; asked = record { command = Explain name; spelled = s; file = refl; there = tt }; rose = rose; input = same; output = none });
-    out_gained = appends_same before.output after.output none;
-    err_gained = fault_alone before after fault.Read h;
-  }
-  explain_ends _ (not_there (starved_read files h) none) = starved words before after files (record { input = same; output = none }) h
+  explain_ends r (of_text source _ t once w) = text_ends source t (loads words before after (Explain name) name s refl tt once) r w
+  explain_ends r (of_long source _ t long once w) = reason_ends source reason.TooLong t long (to_explain source reason.TooLong t long) (loads words before after (Explain name) name s refl tt once) r w
+  explain_ends _ (not_there (failed_read once h) none) = load_fails words before after (Explain name) name s refl tt (record { input = same; output = none }) once h
+  explain_ends _ (not_there (starved_read most h) none) = starved words before after (loads_at_most words before after (Explain name) name s refl tt most) (record { input = same; output = none }) h
 
 -- what a stop means was to be told
-pub stop_ends : (words : List (List ℕ)) (before after : Outside) (stop : Stop) → Spells words (TellStop stop) → after.input ≡ before.input → CountStays before.files after.files → (r : Status) → Written (stop_text stop) before.output after.output before.error_output after.error_output r → Headline words before after r
-stop_ends words before after stop s same files r w = written_ends words before after (stop_text stop) (stop_told stop s) (λ n. in_stop stop n s) same files r w
+pub stop_ends : OneCommand → (words : List (List ℕ)) (before after : Outside) (stop : Stop) → Spells words (TellStop stop) → after.input ≡ before.input → after.files ≡ before.files → (r : Status) → Written (stop_text stop) before.output after.output before.error_output after.error_output r → Headline words before after r
+stop_ends one words before after stop s same files r w =
+    written_ends words before after (stop_text stop) (stop_told stop s) (λ n. in_stop stop n s) same (loads_none (no_file one words before (TellStop stop) s (λ name f. f)) files) r w

@@ -1,6 +1,9 @@
 -- Which answers exclude which.
-use Rattle.std.proofs.Common.{◌≡◌, ◌↔◌, ◌∙◌, ◌^◌, ◌-◌, inl, inr, ℕ, zero, suc, Bool, true, List, [], ◌∷◌, ◌++◌, Option, Some, refl, sym, ap, ap₂, subst, arith}
+use Rattle.std.proofs.Common.{◌≡◌, ◌≤◌, ◌⊎◌, ◌↔◌, ◌∙◌, ◌^◌, ◌-◌, inl, inr, ℕ, zero, suc, Bool, true, List, [], ◌∷◌, ◌++◌, Option, Some, refl, sym, ap, ap₂, subst, arith}
+use Rattle.std.specs.Io.KnownBytes.{Appends}
+use Rattle.setl_io.specs.Faults.{one_more}
 use Rattle.setl_io.specs.Files.{IsText}
+use Rattle.setl_io.specs.Sink.{AppendsPart}
 use Rattle.setl_model_runs.specs.Events.{Event, End}
 use Rattle.setl_model_runs.specs.Events as events
 use Rattle.setl_model_runs.specs.Run.{Machine, Test, State, Next, Goes, Ends, and_then, run, step}
@@ -12,7 +15,7 @@ use Rattle.setl_program.specs.Program.{Program}
 use Rattle.setl_program.specs.ProgramOf.{program_of}
 use Rattle.setl_tree.specs.declared.tree.Tree.{Tree}
 use Rattle.setl_top.specs.Accepted.{IsProgram, Accepted, Refusal, IsRefusedFor}
-use Rattle.setl_top.specs.Headline.{AnyRose, ReadCause, load_failed, script_failed, read_failed, InputLeft, untouched, script_taken, read_from, WriteCause, print_failed, session_failed, out_failed, err_failed, faulty_words, no_such_watcher, refused, checked, listed, advised, has_repr, code_refused, built, too_long_built, explained, no_fault, stop_told, script_refused, debugged, run_ended, trial_refused, trial_ended, Answers, Job, IsInput, IsToLoad, IsToRun, IsOfProgram, IsToRefuse, IsToDebug, IsTried, TellsRefusal, trial_output}
+use Rattle.setl_top.specs.Headline.{AnyRose, ReadCause, load_failed, script_failed, read_failed, InputLeft, untouched, script_taken, not_read, read_from, WriteCause, print_failed, session_failed, out_failed, err_failed, faulty_words, no_such_watcher, refused, checked, listed, advised, has_repr, code_refused, built, too_long_built, explained, no_fault, stop_told, script_refused, debugged, run_ended, trial_refused, trial_ended, Answers, Job, IsInput, IsToLoad, IsToRun, IsOfProgram, IsToRefuse, IsToDebug, IsTried, TellsRefusal, trial_output}
 use Rattle.setl_top.specs.Laws.{IsComplete, FaultyWordsReadNothing, WordsExactly, RefusesExactly, RefusesCodeExactly, ChecksExactly, ListsExactly, AdvisesExactly, ExplainsExactly, TrialsReadNothing, TriesExactly, EndsExactly, TellsTexts, TellsText, AsksOf}
 use Rattle.setl_top.specs.Explained.{IsExplained}
 use Rattle.setl_top.specs.Listings.{IsListing}
@@ -21,7 +24,11 @@ use Rattle.setl_top.specs.Outside.{Outside}
 use Rattle.setl_top.specs.Trials.{trial_source, trial_input, trial_line}
 use Rattle.setl_top.specs.Watching.{asked_for, IsThere, IsNoRequest, reports_of}
 use Rattle.setl_top_status.specs.Ends.{status_of, error_line}
+use Rattle.setl_top_status.specs.Lines.{BreaksIn, fault_line}
 use Rattle.setl_top_status.specs.Reasons.{reason_line}
+use Rattle.setl_top_status.specs.Seen.{Seen, SeenFiles, CountRose, CountStays}
+use Rattle.setl_top_status.specs.declared.fault.Fault.{Fault}
+use Rattle.setl_top_status.specs.declared.fault.Fault.TheVariants as fault
 use Rattle.setl_top_status.specs.declared.status.Status.{Status}
 use Rattle.setl_top_status.specs.declared.status.Status.TheVariants.{Done, Refused, Words, Stopped, Spent, ReadFault, WriteFault, NoMemory}
 use Rattle.setl_top_words.specs.Words.{Options, Command, Run, Check, Code, Build, Advise, Explain, TellStop, Debug, Trial, Spells, HasFile, RunsFile, watched_by, OneCommand}
@@ -36,14 +43,24 @@ use Rattle.setl_top.specs.Built.{CodeRefusal}
 use Rattle.setl_top.specs.Runnable.{Runnable, OfProgram, OfCode, of_image, Holds, Meant}
 use Rattle.setl_top.proofs.OneReason.{FrontLaws, one_reason, one_program_tree, not_refused}
 
-write_rose : (words : List (List ℕ)) (before after : Outside) (out telling : List ℕ) → WriteCause words before after out telling → AnyRose before after
-write_rose words before after _ _ (print_failed out line n h) = inr (inl h.rose)
-write_rose words before after _ _ (session_failed told n h) = inr (inl h.rose)
-write_rose words before after _ _ (out_failed out h) = inr (inl h.rose)
-write_rose words before after _ _ (err_failed out err h) = inr (inr h.rose)
+-- one fault of the error output was counted at what was being told, and one or none at the line of the fault
+err_rose : (why : Fault) (text : List ℕ) (before after : Seen (List ℕ)) → why ≡ fault.Write → BreaksIn why text before after → one_more before.faults ≤ after.faults
+err_rose fault.Read text before after w h = absurd h.count
+err_rose fault.NoMemory text before after w h = absurd (cc)
+err_rose fault.Write text before after w h = go h.tried.gained
+  where
+    go : (Appends h.then.held after.held (fault_line fault.Write) × CountStays h.then after) ⊎ (AppendsPart h.then.held after.held (fault_line fault.Write) × (CountRose h.then after ⊎ CountStays h.then after)) → one_more before.faults ≤ after.faults
+    go (inl all) = omega (arith, h.count, all.1)
+    go (inr part) = elim part.1 [ inl more ↦ omega (arith, h.count, more) | inr same ↦ omega (arith, h.count, same) ]
+
+write_rose : (words : List (List ℕ)) (before after : Outside) (out : List ℕ) → WriteCause words before after out → AnyRose before after
+write_rose words before after _ (print_failed out line n h) = inr (inl h.rose)
+write_rose words before after _ (session_failed told n h) = inr (inl h.rose)
+write_rose words before after _ (out_failed out h) = inr (inl h.rose)
+write_rose words before after _ (err_failed out err h) = inr (inr (err_rose fault.Write err before.error_output after.error_output refl h.fails))
 
 read_rose : (words : List (List ℕ)) (before after : Outside) (out : List ℕ) → ReadCause words before after out → AnyRose before after
-read_rose words before after _ (load_failed h) = inl (inl h.rose)
+read_rose words before after _ (load_failed h) = inl (inl (ap (λ (f : SeenFiles). f.faults) h.failed))
 read_rose words before after _ (script_failed h) = inl (inr h.rose)
 read_rose words before after _ (read_failed out h) = inl (inr h.rose)
 
@@ -54,7 +71,7 @@ complete words before after Words h = inr h
 complete words before after Stopped h = inr h
 complete words before after Spent h = inr h
 complete words before after ReadFault h = inl (inl (read_rose words before after h.out h.cause))
-complete words before after WriteFault h = inl (inl (write_rose words before after h.out h.telling h.cause))
+complete words before after WriteFault h = inl (inl (write_rose words before after h.out h.cause))
 complete words before after NoMemory h = inl (inr refl)
 
 -- ---- the words
@@ -64,9 +81,10 @@ no_read words before after _ faulty (load_failed h) = faulty h.asked.command h.a
 no_read words before after _ faulty (script_failed h) = faulty (Debug h.based h.asked.name) h.asked.spelled tt
 no_read words before after _ faulty (read_failed out h) = faulty h.reading.asked.command h.reading.asked.spelled h.reading.asked.there
 
-no_input : (words : List (List ℕ)) (before after : Outside) → IsNoRequest words before.watchers → InputLeft words before after → after.input.held ≡ before.input.held
+no_input : (words : List (List ℕ)) (before after : Outside) → IsNoRequest words before.watchers → InputLeft words before after → after.input ≡ before.input
 no_input words before after faulty (untouched e) = e
 no_input words before after faulty (script_taken p b taken a k) = absurd (faulty (Debug b a.name) a.spelled tt)
+no_input words before after faulty (not_read k o n s there e) = absurd (faulty (Run k o n) s there)
 no_input words before after faulty (read_from h) = absurd (faulty h.reading.asked.command h.reading.asked.spelled h.reading.asked.there)
 
 pub faulty_reads_nothing : FaultyWordsReadNothing

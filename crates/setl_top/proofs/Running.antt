@@ -31,7 +31,7 @@ use Rattle.setl_top.specs.Runnable.{Runnable, OfProgram, OfCode, IsAt}
 use Rattle.setl_top.specs.code.Runs.{Streams, streams, counted, RunsTo, RunsInto, WritesInto, RunsToRead, RunsUpTo, Runs, TakesInput}
 use Rattle.setl_watch.specs.Watches.{Watch, watched, told_all}
 use Rattle.setl_top_words.specs.Words.{Options}
-use Rattle.setl_top_status.specs.FrontLaws.{appends_none}
+use Rattle.std.proofs.KnownBytes.{Appends-nil}
 use Rattle.setl_top_status.specs.Seen.{Seen}
 use Rattle.setl_top.proofs.Reaching.{ends_at}
 use Rattle.setl_top.proofs.Stands.{coded, Taken, Came, Stands}
@@ -228,7 +228,7 @@ not_begun r asked s u same = inr (record {
   known = is_input s.input.held;
   out = [];
   at = first_at r asked (input_of s.input.held);
-  gained = subst (λ o. Appends s.output.held o []) (sym same) (appends_none s.output.held);
+  gained = subst (λ o. Appends s.output.held o []) (sym same) (Appends-nil s.output.held);
 })
 
 -- a run that wasn't begun is one that was broken off at its first state

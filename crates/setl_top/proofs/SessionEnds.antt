@@ -1,30 +1,30 @@
 -- How a session of the debugger makes its headline, and what it takes of the input.
-use Rattle.std.proofs.Common.{◌≡◌, ℕ, Bool, List, [], ◌∷◌, ◌++◌, take, refl}
+use Rattle.std.proofs.Common.{◌≡◌, inl, ℕ, Bool, List, [], ◌∷◌, ◌++◌, take, refl}
 use Rattle.setl_debug_script.specs.declared.command.Command.{Command as ScriptCommand}
 use Rattle.setl_program.specs.ProgramOf.{program_of}
 use Rattle.setl_tree.specs.declared.tree.Tree.{Tree}
 use Rattle.setl_top_session.specs.Sessions.{IsTold}
 use Rattle.setl_top_session.specs.code.Follows.{FollowsScript, followed, unwritten, starved}
 use Rattle.setl_top_session.specs.code.Scripts.{TookScript, NoScript, not_spelled, unread_script, starved_script, refused_bytes, starved_of_script}
-use Rattle.setl_top_status.specs.Lines.{AppendsFront, fault_line}
+use Rattle.setl_top_status.specs.Lines.{TriesLine, fault_line}
 use Rattle.setl_top_status.specs.Seen.{CountStays}
 use Rattle.setl_top_status.specs.declared.fault.Fault.TheVariants as fault
 use Rattle.setl_top_status.specs.declared.status.Status.{Status}
 use Rattle.setl_top_status.specs.declared.status.Status.TheVariants.{Refused}
 use Rattle.setl_top.specs.code.Debugs.{Debugs, debugged_so, no_script, not_debugged, session_of}
 use Rattle.setl_top.specs.code.Loads.{Loaded}
-use Rattle.setl_top.specs.Headline.{IsToDebug, IsDebuggedUpTo, script_refused, debugged, no_program, in_session, script_failed, session_failed, at_work, MemoryFailed, InputLeft, untouched, script_taken, Headline}
+use Rattle.setl_top.specs.Headline.{IsToDebug, IsDebuggedUpTo, script_refused, debugged, no_program, in_session, script_failed, session_failed, at_work, MemoryFailed, LoadsAsked, InputLeft, untouched, script_taken, Headline}
 use Rattle.setl_top.specs.Outside.{Outside}
 use Rattle.setl_top.specs.Requests.{IsToFollow}
 use Rattle.setl_top_words.specs.Words.{Spells, Debug}
-use Rattle.setl_top.proofs.Ends.{fault_alone, told, appends_same, count_same, held_same, not_loaded}
+use Rattle.setl_top.proofs.Ends.{loads, told, appends_same, count_same, not_loaded}
 
 module _ (words : List (List ℕ)) (before after : Outside) (based : Bool) (name : List ℕ) (s : Spells words (Debug based name)) where
   -- there is to be a session over the program of the file
   to_debug : (tree : Tree) → Loaded before.files.held name tree → IsToDebug words before (program_of tree) based
   to_debug tree l = record { name = name; source = l.source; spelled = s; text = l.text; accepted = record { tree = tree; is_program = l.is_program; meaning = refl } }
 
-  module _ (tree : Tree) (l : Loaded before.files.held name tree) (files : CountStays before.files after.files) where
+  module _ (tree : Tree) (l : Loaded before.files.held name tree) (files : LoadsAsked words before after) where
     -- ---- a script that was read
 
     module _ (script : List ScriptCommand) (t : TookScript before.input after.input script) where
@@ -44,34 +44,33 @@ module _ (words : List (List ℕ)) (before after : Outside) (based : Bool) (name
         err_gained = appends_same before.error_output after.error_output still;
         quiet = record { files = files; input = t.count; output = count };
         told = count_same before.error_output after.error_output still;
+        silent = λ _. still;
       }
       follow_ends _ (unwritten count text n is part gained rose h) = record {
         out = take n text;
-        telling = [];
-        cause = session_failed text n (record { rose = rose; telling = up_to count text is; part = part; taken = t.taken.0; files = files; input = t.count });
+        cause = session_failed text n (record { rose = rose; telling = up_to count text is; part = part; taken = t.taken.0; files = files; input = t.count; tried = h });
         out_gained = gained;
-        err_gained = fault_alone before after fault.Write h;
       }
       follow_ends _ (starved count text n is part gained still h) = record {
         out = take n text;
-        telling = [];
-        cause = at_work (take n text) (in_session text n (up_to count text is) part);
+        cause = at_work (take n text) (in_session text n (up_to count text is) part) h;
         out_gained = gained;
-        err_gained = fault_alone before after fault.NoMemory h;
-        quiet = record { files = files; input = t.count; output = still };
+        files = inl files;
+        input = t.count;
+        output = still;
       }
 
     -- ---- a script that wasn't
 
     module _ (none : after.output ≡ before.output) where
-      starved_of : CountStays before.input after.input → AppendsFront before.error_output.held after.error_output.held (fault_line fault.NoMemory) → MemoryFailed words before after
+      starved_of : CountStays before.input after.input → TriesLine (fault_line fault.NoMemory) before.error_output after.error_output → MemoryFailed words before after
       starved_of count h = record {
         out = [];
-        telling = [];
-        cause = at_work [] no_program;
+        cause = at_work [] no_program h;
         out_gained = appends_same before.output after.output none;
-        err_gained = fault_alone before after fault.NoMemory h;
-        quiet = record { files = files; input = count; output = count_same before.output after.output none };
+        files = inl files;
+        input = count;
+        output = count_same before.output after.output none;
       }
 
       script_ends : (r : Status) → NoScript before.input after.input before.error_output after.error_output r → Headline words before after r
@@ -82,7 +81,7 @@ module _ (words : List (List ℕ)) (before after : Outside) (based : Bool) (name
         out = [];
         cause = script_failed (record { program = program_of tree; based = based; asked = to_debug tree l; rose = rose; files = files; output = none });
         out_gained = appends_same before.output after.output none;
-        err_gained = fault_alone before after fault.Read h;
+        tried = h;
       }
       script_ends _ (starved_script taken c count h) = starved_of count h
 
@@ -95,11 +94,11 @@ module _ (words : List (List ℕ)) (before after : Outside) (based : Bool) (name
   -- ---- the session
 
   pub debug_ends : (r : Status) → Debugs based name before.files after.files before.input after.input before.output after.output before.error_output after.error_output r → Headline words before after r
-  debug_ends r (debugged_so tree script _ l files t h) = follow_ends tree l files script t r h
-  debug_ends r (no_script tree _ l files h none) = script_ends tree l files none r h
+  debug_ends r (debugged_so tree script _ l once t h) = follow_ends tree l (loads words before after (Debug based name) name s refl tt once) script t r h
+  debug_ends r (no_script tree _ l once h none) = script_ends tree l (loads words before after (Debug based name) name s refl tt once) none r h
   debug_ends r (not_debugged _ h same none) = not_loaded words before after (Debug based name) name s refl tt tt (record { input = same; output = none }) r h
 
   pub debug_takes : (r : Status) → Debugs based name before.files after.files before.input after.input before.output after.output before.error_output after.error_output r → InputLeft words before after
-  debug_takes r (debugged_so tree script _ l files t h) = script_taken (program_of tree) based t.bytes (to_debug tree l) t.taken.0
-  debug_takes r (no_script tree _ l files h none) = script_takes tree l files r h
-  debug_takes r (not_debugged _ h same none) = untouched (held_same before.input after.input same)
+  debug_takes r (debugged_so tree script _ l once t h) = script_taken (program_of tree) based t.bytes (to_debug tree l) t.taken.0
+  debug_takes r (no_script tree _ l once h none) = script_takes tree l (loads words before after (Debug based name) name s refl tt once) r h
+  debug_takes r (not_debugged _ h same none) = untouched same

@@ -10,10 +10,10 @@ use Rattle.setl_tree.specs.declared.tree.Tree.{Tree}
 use Rattle.setl_top_session.specs.Sessions.{Session}
 use Rattle.setl_top_session.specs.code.Follows.{FollowsScript, starved}
 use Rattle.setl_top_session.specs.code.Scripts.{TookScript, NoScript}
-use Rattle.setl_top_status.specs.FrontLaws.{appends_none}
-use Rattle.setl_top_status.specs.Lines.{AppendsFront, fault_line}
-use Rattle.setl_top_status.specs.Seen.{Seen}
-use Rattle.setl_top_status.specs.code.Loads.{SeenFiles, IsStill}
+use Rattle.std.proofs.KnownBytes.{Appends-nil}
+use Rattle.setl_top_status.specs.Lines.{TriesLine, fault_line}
+use Rattle.setl_top_status.specs.Seen.{Seen, SeenFiles}
+use Rattle.setl_top_status.specs.code.Loads.{IsStill}
 use Rattle.setl_top_status.specs.declared.fault.Fault.TheVariants as fault
 use Rattle.setl_top_status.specs.declared.status.Status.{Status}
 use Rattle.setl_top_status.specs.declared.status.Status.TheVariants as status
@@ -25,8 +25,8 @@ pub bare_code : (p : Program) (c : Code) → c ≡ code_of p → IsBare c
 bare_code p c same = subst IsBare (sym same) refl
 
 -- memory was refused before the first command
-pub starved_first : (s : Session) (out err err' : Seen (List ℕ)) → AppendsFront err.held err'.held (fault_line fault.NoMemory) → FollowsScript s out out err err' status.NoMemory
-starved_first s out err err' h = starved 0 [] 0 (record { next = 0; follows = (refl, refl) }) (omega arith) (appends_none out.held) refl h
+pub starved_first : (s : Session) (out err err' : Seen (List ℕ)) → TriesLine (fault_line fault.NoMemory) err err' → FollowsScript s out out err err' status.NoMemory
+starved_first s out err err' h = starved 0 [] 0 (record { next = 0; follows = (refl, refl) }) (omega arith) (Appends-nil out.held) refl h
 
 -- the session over a program that is that of a tree
 pub over_tree : (p : Program) (tree : Tree) (based : Bool) (script : List Command) (out out' err err' : Seen (List ℕ)) (ends : Status) → p ≡ program_of tree → FollowsScript (record { program = p; based = based; script = script }) out out' err err' ends → FollowsScript (session_of tree based script) out out' err err' ends
@@ -34,10 +34,10 @@ over_tree p tree based script out out' err err' ends same = subst (λ q. Follows
 
 -- ---- behind a load that told nothing
 
-module _ (based : Bool) (name : List ℕ) (files files' : SeenFiles) (err mid : Seen (List ℕ)) (still : IsStill files files' err mid) (tree : Tree) (l : Loaded files.held name tree) (input input' out out' err' : Seen (List ℕ)) where
+module _ (based : Bool) (name : List ℕ) (files files' : SeenFiles) (err mid : Seen (List ℕ)) (still : IsStill name files files' err mid) (tree : Tree) (l : Loaded files.held name tree) (input input' out out' err' : Seen (List ℕ)) where
   pub no_script_then : (ends : Status) → out' ≡ out → NoScript input input' mid err' ends → Debugs based name files files' input input' out out' err err' ends
-  no_script_then ends none h = no_script tree ends l still.count (subst (λ (o : Seen (List ℕ)). NoScript input input' o err' ends) still.same h) none
+  no_script_then ends none h = no_script tree ends l still.load (subst (λ (o : Seen (List ℕ)). NoScript input input' o err' ends) still.same h) none
 
   pub debugged_then : (script : List Command) (last : Seen (List ℕ)) (ends : Status) → last ≡ mid → TookScript input input' script → FollowsScript (session_of tree based script) out out' last err' ends → Debugs based name files files' input input' out out' err err' ends
   debugged_then script last ends same took h =
-      debugged_so tree script ends l still.count took (subst (λ (o : Seen (List ℕ)). FollowsScript (session_of tree based script) out out' o err' ends) (same ∙ still.same) h)
+      debugged_so tree script ends l still.load took (subst (λ (o : Seen (List ℕ)). FollowsScript (session_of tree based script) out out' o err' ends) (same ∙ still.same) h)

@@ -1,5 +1,5 @@
 -- A trial as an answer of the program.
-use Rattle.std.proofs.Common.{◌≡◌, ◌^◌, ◌-◌, ℕ, Bool, true, List, [], ◌∷◌, ◌++◌, Option, Some, refl, sym, subst, arith}
+use Rattle.std.proofs.Common.{◌≡◌, ◌^◌, ◌-◌, ℕ, Bool, true, List, [], ◌∷◌, ◌++◌, inl, Option, Some, refl, sym, subst, arith}
 use Rattle.std.specs.Io.KnownBytes.{Appends}
 use Rattle.setl_io.specs.Faults.{Rose}
 use Rattle.setl_machine_control.specs.Answers.{kind_of}
@@ -9,7 +9,7 @@ use Rattle.setl_model.specs.Means.{Means}
 use Rattle.setl_program.specs.Program.{Program}
 use Rattle.setl_model_runs.specs.Events as run
 use Rattle.setl_top.specs.Accepted.{Accepted}
-use Rattle.setl_top.specs.Headline.{IsInput, IsTried, trial_output, Answers, trial_ended, in_trial, LeavesFilesAndInput, Ended, Headline}
+use Rattle.setl_top.specs.Headline.{IsInput, IsTried, trial_output, Answers, trial_ended, in_trial, LeavesFilesAndInput, LoadsAsked, loads_none, Ended, Headline}
 use Rattle.setl_top.specs.Headline as headline
 use Rattle.setl_top.specs.Outside.{Outside}
 use Rattle.setl_top.specs.Trials.{trial_source, trial_input, trial_line}
@@ -19,13 +19,13 @@ use Rattle.setl_top.specs.code.Tells.{TellsEnd}
 use Rattle.setl_top.specs.code.Tries.{trial_options, RunEnds, TrialRuns, Tries, trial_refused, trial_done, trial_stopped, trial_spent, trial_starved}
 use Rattle.setl_top_status.specs.Ends.{status_of, error_line}
 use Rattle.setl_top_status.specs.Reasons.{reason_line}
-use Rattle.setl_top_status.specs.Seen.{Seen, CountStays}
+use Rattle.setl_top_status.specs.Seen.{Seen}
 use Rattle.setl_top_status.specs.code.Tells.{Tells}
 use Rattle.setl_top_status.specs.declared.status.Status.{Status}
 use Rattle.setl_top_status.specs.declared.status.Status.TheVariants.{Done, Refused, Stopped, Spent}
 use Rattle.setl_watch.specs.Watches.{watched}
-use Rattle.setl_top_words.specs.Words.{Trial, Spells}
-use Rattle.setl_top.proofs.Ends.{count_same, told_alone, starved, written_ends}
+use Rattle.setl_top_words.specs.Words.{Trial, Spells, OneCommand}
+use Rattle.setl_top.proofs.Ends.{no_file, told_alone, starved, written_ends}
 
 -- ---- runs in memory
 
@@ -82,15 +82,15 @@ ended_then seed nodes program printed out out' err err' end.Stuck r a m other st
 
 -- ---- the headline
 
-module _ (words : List (List ℕ)) (before after : Outside) (seed nodes : ℕ) (s : Spells words (Trial seed nodes)) (rest : LeavesFilesAndInput before after) where
+module _ (one : OneCommand) (words : List (List ℕ)) (before after : Outside) (seed nodes : ℕ) (s : Spells words (Trial seed nodes)) (rest : LeavesFilesAndInput before after) where
   tried : (printed : List ℕ) (e : run.End) → TrialRuns seed nodes printed e → IsTried words (trial_line seed nodes printed) e
   tried printed e m = record { seed = seed; nodes = nodes; program = m.program; printed = printed; spelled = s; accepted = m.accepted; means = m.means; is_line = refl }
 
   answer : (printed : List ℕ) (e : run.End) (status : Status) → TrialRuns seed nodes printed e → status_of e ≡ Some status → Answers words before status (trial_output e (trial_line seed nodes printed)) (error_line e) before.input.held
   answer printed e status m how = trial_ended status (trial_line seed nodes printed) e (record { tried = tried printed e m; ends = how })
 
-  no_load : CountStays before.files after.files
-  no_load = count_same before.files after.files rest.files
+  no_load : LoadsAsked words before after
+  no_load = loads_none (no_file one words before (Trial seed nodes) s (λ name f. f)) rest.files
 
   -- the last line was told, or not, and nothing was written
   silent : (status : Status) (line : List ℕ) → (Ended words before after status → Headline words before after status) → Answers words before status [] line before.input.held → after.output ≡ before.output → (r : Status) → Tells status line before.error_output after.error_output r → Headline words before after r
@@ -107,4 +107,4 @@ module _ (words : List (List ℕ)) (before after : Outside) (seed nodes : ℕ) (
       silent Stopped (error_line (run.Stopped kind line)) (λ e. e) (answer printed (run.Stopped kind line) Stopped m refl) still ends t
   trial_ends _ (trial_spent printed ends m still t) =
       silent Spent (error_line run.Spent) (λ e. e) (answer printed run.Spent Spent m refl) still ends t
-  trial_ends _ (trial_starved still t) = starved words before after no_load (record { input = rest.input; output = still }) t
+  trial_ends _ (trial_starved still t) = starved words before after (inl no_load) (record { input = rest.input; output = still }) t

@@ -1,6 +1,7 @@
 -- What a call of the program answers, and what it does to the outside.
 use Rattle.std.specs.Prelude.{◌≡◌, ◌⊎◌, ◌<◌, ◌≤◌, ℕ, Bool, List, [], ◌∷◌, ◌++◌, length, take, Option, None, Some, ⊤}
 use Rattle.std.specs.Io.KnownBytes.{Appends, Consumes, prepend_known}
+use Rattle.setl_io.specs.Faults.{Rose, one_more}
 use Rattle.setl_model_runs.specs.Events.{End}
 use Rattle.setl_model_runs.specs.Events as run
 use Rattle.setl_program.specs.Program.{Program}
@@ -17,14 +18,14 @@ use Rattle.setl_top.specs.Watching.{IsThere, no_watcher_line, reports_of}
 use Rattle.setl_top_images.specs.CodeFiles.{flaw_line}
 use Rattle.setl_top_images.specs.declared.images.Flaw.TheVariants.{TooLong}
 use Rattle.setl_top_status.specs.Ends.{status_of, error_line}
-use Rattle.setl_top_status.specs.Lines.{AppendsFronts, fault_line}
-use Rattle.setl_top_status.specs.Seen.{CountRose, CountStays}
-use Rattle.setl_top_status.specs.declared.fault.Fault.{Fault}
+use Rattle.setl_top_status.specs.Lines.{BreaksIn, TriesLine, fault_line}
+use Rattle.setl_top_status.specs.Seen.{CountRose, CountStays, LoadsOnce, FailsOnce}
 use Rattle.setl_top_status.specs.declared.fault.Fault.TheVariants as fault
 use Rattle.setl_top_status.specs.declared.status.Status.{Status}
 use Rattle.setl_top_status.specs.declared.status.Status.TheVariants.{Done, Refused, Words, Stopped, Spent, ReadFault, WriteFault, NoMemory}
-use Rattle.setl_top_words.specs.Words.{Command, Check, Code, Build, Advise, Explain, TellStop, Trial, Spells, watched_by, IsFaulty}
+use Rattle.setl_top_words.specs.Words.{Command, Options, Run, Check, Code, Build, Advise, Explain, TellStop, Trial, Spells, watched_by, IsFaulty}
 use Rattle.setl_top_words.specs.Told.{TellsFaulty}
+use Rattle.setl_top_words.specs.declared.reading.FileKind.{FileKind}
 
 -- ---- what a run does that the words ask for
 
@@ -98,21 +99,27 @@ pub data Answers (words : List (List ℕ)) (before : Outside) : Status → List 
   trial_refused : (seed nodes : ℕ) (line : List ℕ) → Spells words (Trial seed nodes) → Refusal trial_source line → Answers words before Refused [] (line ++ 10 ∷ []) before.input.held
   trial_ended : (status : Status) (line : List ℕ) (end : End) → TrialEnds words status line end → Answers words before status (trial_output end line) (error_line end) before.input.held
 
--- no count of faults rose before the last line was tried on the error output
-pub record IsQuiet (before after : Outside) : Type 0 where
-  pub files : CountStays before.files after.files
+-- The one load of a call: where the words name a file, it is of that file and no fault, and where they name none, there is none.
+pub data LoadsAsked (words : List (List ℕ)) (before after : Outside) : Type 0 where
+  loads_it : (name : List ℕ) → IsToLoad words before name → LoadsOnce name before.files after.files → LoadsAsked words before after
+  loads_none : ((name : List ℕ) → IsToLoad words before name → ⊥) → after.files ≡ before.files → LoadsAsked words before after
+
+-- nothing failed before the last line was tried on the error output
+pub record IsQuiet (words : List (List ℕ)) (before after : Outside) : Type 0 where
+  pub files : LoadsAsked words before after
   pub input : CountStays before.input after.input
   pub output : CountStays before.output after.output
 
--- the call came to its end
+-- the call came to its end; where nothing is told, the error output is as before
 pub record Ended (words : List (List ℕ)) (before after : Outside) (status : Status) : Type 0 where
   pub out : List ℕ
   pub err : List ℕ
   pub answer : Answers words before status out err after.input.held
   pub out_gained : Appends before.output.held after.output.held out
   pub err_gained : Appends before.error_output.held after.error_output.held err
-  pub quiet : IsQuiet before after
+  pub quiet : IsQuiet words before after
   pub told : CountStays before.error_output after.error_output
+  pub silent : err ≡ [] → after.error_output ≡ before.error_output
 
 -- ---- a call that is broken off
 
@@ -134,16 +141,11 @@ pub data UpToAny (words : List (List ℕ)) (before : Outside) : List ℕ → Typ
   in_session : (told : List ℕ) (n : ℕ) → IsDebuggedUpTo words before told → n ≤ length told → UpToAny words before (take n told)
   in_write : (out : List ℕ) → UpToWrite words before out → UpToAny words before out
 
--- What the error output gains when a call is broken off: a front of what was being told, and then a front of the fault's
--- line.
-abbrev pub TellsFault : (before after : Outside) → (telling : List ℕ) → Fault → Type 0
-TellsFault before after telling why = AppendsFronts before.error_output.held after.error_output.held telling (fault_line why)
-
--- the load of the file that the words name failed, and the input and the output are as before
+-- the one load, of the file that the words name, failed, and the input and the output are as before
 pub record LoadFailed (words : List (List ℕ)) (before after : Outside) : Type 0 where
   pub name : List ℕ
   pub asked : IsToLoad words before name
-  pub rose : CountRose before.files after.files
+  pub failed : FailsOnce name before.files after.files
   pub input : after.input ≡ before.input
   pub output : after.output ≡ before.output
 
@@ -151,7 +153,7 @@ pub record LoadFailed (words : List (List ℕ)) (before after : Outside) : Type 
 pub record InputFailed (words : List (List ℕ)) (before after : Outside) (out : List ℕ) : Type 0 where
   pub rose : CountRose before.input after.input
   pub reading : IsAtRead words before out
-  pub files : CountStays before.files after.files
+  pub files : LoadsAsked words before after
   pub output : CountStays before.output after.output
 
 -- a read of a session's script failed, nothing else did, and the output is as before
@@ -160,7 +162,7 @@ pub record ScriptFailed (words : List (List ℕ)) (before after : Outside) : Typ
   pub based : Bool
   pub asked : IsToDebug words before program based
   pub rose : CountRose before.input after.input
-  pub files : CountStays before.files after.files
+  pub files : LoadsAsked words before after
   pub output : after.output ≡ before.output
 
 -- what couldn't be read, with what the output has gained then
@@ -169,74 +171,79 @@ pub data ReadCause (words : List (List ℕ)) (before after : Outside) : (out : L
   script_failed : ScriptFailed words before after → ReadCause words before after []
   read_failed : (out : List ℕ) → InputFailed words before after out → ReadCause words before after out
 
--- nothing but the fault is told
+-- the line of the fault is tried, and nothing else is told
 pub record ReadFailed (words : List (List ℕ)) (before after : Outside) : Type 0 where
   pub out : List ℕ
   pub cause : ReadCause words before after out
   pub out_gained : Appends before.output.held after.output.held out
-  pub err_gained : TellsFault before after [] fault.Read
+  pub tried : TriesLine (fault_line fault.Read) before.error_output after.error_output
 
 -- The output failed in a print, after the output up to it and some of its line, and not all of it, and nothing else did.
--- The input has what the run had left there, but for bytes that were taken ahead.
+-- The input has what the run had left there, but for bytes that were taken ahead. The line of the fault is tried.
 pub record PrintFailed (words : List (List ℕ)) (before after : Outside) (out line : List ℕ) (n : ℕ) : Type 0 where
   pub rose : CountRose before.output after.output
   pub printing : IsAtPrint words before out line
   pub part : n < length line
   pub leaves : IsLeft before.input.held after.input.held printing.left
-  pub files : CountStays before.files after.files
+  pub files : LoadsAsked words before after
   pub input : CountStays before.input after.input
+  pub tried : TriesLine (fault_line fault.Write) before.error_output after.error_output
 
--- the output failed in a text that was being written, nothing else did, and the input is as before
+-- the output failed in a text that was being written, nothing else did, the input is as before, and the line of the fault is
+-- tried
 pub record TextFailed (words : List (List ℕ)) (before after : Outside) (out : List ℕ) : Type 0 where
   pub rose : CountRose before.output after.output
   pub writing : UpToWrite words before out
-  pub files : CountStays before.files after.files
+  pub files : LoadsAsked words before after
   pub input : after.input ≡ before.input
+  pub tried : TriesLine (fault_line fault.Write) before.error_output after.error_output
 
 -- The output failed in what the first commands of a session tell, of which it has gained some, and not all, and nothing else
--- did. The script was taken off the input.
+-- did. The script was taken off the input, and the line of the fault is tried.
 pub record SessionFailed (words : List (List ℕ)) (before after : Outside) (told : List ℕ) (n : ℕ) : Type 0 where
   pub rose : CountRose before.output after.output
   pub telling : IsDebuggedUpTo words before told
   pub part : n < length told
   pub taken : Consumes before.input.held after.input.held telling.asked.bytes
-  pub files : CountStays before.files after.files
+  pub files : LoadsAsked words before after
   pub input : CountStays before.input after.input
+  pub tried : TriesLine (fault_line fault.Write) before.error_output after.error_output
 
--- the error output failed at what an answer tells, after the whole output, and nothing failed before
+-- The error output failed at what an answer tells, after the whole output, and nothing failed before. It gained some of that
+-- and not all, and then the line of the fault is tried.
 pub record TellingFailed (words : List (List ℕ)) (before after : Outside) (out err : List ℕ) : Type 0 where
   pub status : Status
   pub answer : Answers words before status out err after.input.held
-  pub rose : CountRose before.error_output after.error_output
-  pub quiet : IsQuiet before after
+  pub fails : BreaksIn fault.Write err before.error_output after.error_output
+  pub quiet : IsQuiet words before after
 
--- what couldn't be written, with what the output has gained then, and what was being told: nothing, or what an answer tells
-pub data WriteCause (words : List (List ℕ)) (before after : Outside) : (out telling : List ℕ) → Type 0 where
-  print_failed : (out line : List ℕ) (n : ℕ) → PrintFailed words before after out line n → WriteCause words before after (out ++ take n line) []
-  session_failed : (told : List ℕ) (n : ℕ) → SessionFailed words before after told n → WriteCause words before after (take n told) []
-  out_failed : (out : List ℕ) → TextFailed words before after out → WriteCause words before after out []
-  err_failed : (out err : List ℕ) → TellingFailed words before after out err → WriteCause words before after out err
+-- what couldn't be written, with what the output has gained then
+pub data WriteCause (words : List (List ℕ)) (before after : Outside) : (out : List ℕ) → Type 0 where
+  print_failed : (out line : List ℕ) (n : ℕ) → PrintFailed words before after out line n → WriteCause words before after (out ++ take n line)
+  session_failed : (told : List ℕ) (n : ℕ) → SessionFailed words before after told n → WriteCause words before after (take n told)
+  out_failed : (out : List ℕ) → TextFailed words before after out → WriteCause words before after out
+  err_failed : (out err : List ℕ) → TellingFailed words before after out err → WriteCause words before after out
 
 pub record WriteFailed (words : List (List ℕ)) (before after : Outside) : Type 0 where
   pub out : List ℕ
-  pub telling : List ℕ
-  pub cause : WriteCause words before after out telling
+  pub cause : WriteCause words before after out
   pub out_gained : Appends before.output.held after.output.held out
-  pub err_gained : TellsFault before after telling fault.Write
 
--- where memory was refused: anywhere with nothing told, or at what an answer tells, after the whole output
-pub data MemoryCause (words : List (List ℕ)) (before after : Outside) : (out telling : List ℕ) → Type 0 where
-  at_work : (out : List ℕ) → UpToAny words before out → MemoryCause words before after out []
-  at_end : (status : Status) (out err : List ℕ) → Answers words before status out err after.input.held → MemoryCause words before after out err
+-- Where memory was refused: anywhere with nothing told, or after the whole output, for what an answer tells or in it. Then the
+-- line of the fault is tried.
+pub data MemoryCause (words : List (List ℕ)) (before after : Outside) : (out : List ℕ) → Type 0 where
+  at_work : (out : List ℕ) → UpToAny words before out → TriesLine (fault_line fault.NoMemory) before.error_output after.error_output → MemoryCause words before after out
+  untold : (status : Status) (out err : List ℕ) → Answers words before status out err after.input.held → TriesLine (fault_line fault.NoMemory) before.error_output after.error_output → MemoryCause words before after out
+  at_end : (status : Status) (out err : List ℕ) → Answers words before status out err after.input.held → BreaksIn fault.NoMemory err before.error_output after.error_output → MemoryCause words before after out
 
--- memory was refused, and nothing failed before
+-- memory was refused, and nothing failed before; the files may not have been asked for yet
 pub record MemoryFailed (words : List (List ℕ)) (before after : Outside) : Type 0 where
   pub out : List ℕ
-  pub telling : List ℕ
-  pub cause : MemoryCause words before after out telling
+  pub cause : MemoryCause words before after out
   pub out_gained : Appends before.output.held after.output.held out
-  pub err_gained : TellsFault before after telling fault.NoMemory
-  pub quiet : IsQuiet before after
+  pub files : LoadsAsked words before after ⊎ (after.files ≡ before.files)
+  pub input : CountStays before.input after.input
+  pub output : CountStays before.output after.output
 
 -- ---- the headline
 
@@ -262,10 +269,11 @@ pub record ReadsOff (words : List (List ℕ)) (before after : Outside) : Type 0 
   pub takes : Consumes before.input.held after.input.held taken
 
 -- What became of the input: it is as it was, a session over an accepted program took bytes off its front as its script, or a
--- run read some of it.
+-- run read some of it or none.
 pub data InputLeft (words : List (List ℕ)) (before after : Outside) : Type 0 where
-  untouched : after.input.held ≡ before.input.held → InputLeft words before after
+  untouched : after.input ≡ before.input → InputLeft words before after
   script_taken : (program : Program) (based : Bool) (taken : List ℕ) → IsToDebug words before program based → Consumes before.input.held after.input.held taken → InputLeft words before after
+  not_read : (kind : FileKind) (options : Options) (name : List ℕ) → Spells words (Run kind options name) → IsThere options.watch before.watchers → after.input.held ≡ before.input.held → InputLeft words before after
   read_from : ReadsOff words before after → InputLeft words before after
 
 -- a check writes nothing to the output and leaves the input as it was, however it ends
@@ -300,6 +308,6 @@ pub record LeavesFilesAndInput (before after : Outside) : Type 0 where
 abbrev pub TrialLeavesFilesAndInput : List (List ℕ) → Outside → Outside → Type 0
 TrialLeavesFilesAndInput words before after = (seed nodes : ℕ) → Spells words (Trial seed nodes) → LeavesFilesAndInput before after
 
--- some count rose
+-- a fault was counted, or one or more of the error output
 abbrev pub AnyRose : Outside → Outside → Type 0
-AnyRose before after = (CountRose before.files after.files ⊎ CountRose before.input after.input) ⊎ (CountRose before.output after.output ⊎ CountRose before.error_output after.error_output)
+AnyRose before after = (Rose before.files.faults after.files.faults ⊎ CountRose before.input after.input) ⊎ (CountRose before.output after.output ⊎ (one_more before.error_output.faults ≤ after.error_output.faults))

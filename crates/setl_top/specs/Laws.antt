@@ -8,7 +8,7 @@ use Rattle.setl_program.specs.Program.{Program}
 use Rattle.setl_program.specs.ProgramOf.{program_of}
 use Rattle.setl_tree.specs.declared.tree.Tree.{Tree}
 use Rattle.setl_top.specs.Accepted.{IsProgram, Accepted, IsRefusedFor, Refusal}
-use Rattle.setl_top.specs.Headline.{Headline, InputLeft, Ended, AnyRose, Answers, Job, IsToLoad, IsToRun, IsTried, TellsRefusal, trial_output}
+use Rattle.setl_top.specs.Headline.{Headline, InputLeft, LoadFailed, LoadsAsked, Ended, AnyRose, Answers, Job, IsToLoad, IsToRun, IsTried, TellsRefusal, trial_output}
 use Rattle.setl_top.specs.Built.{IsBuilt, IsLongCode, CodeRefusal}
 use Rattle.setl_top.specs.Runnable.{Meant, OfProgram, of_image, RunsAlike}
 use Rattle.setl_image_format.specs.ImageCodec.{Image}
@@ -56,29 +56,29 @@ abbrev pub IsComplete : Type 0
 IsComplete = (words : List (List ℕ)) (before after : Outside) (status : Status) →
     Headline words before after status → (AnyRose before after ⊎ (status ≡ NoMemory)) ⊎ Ended words before after status
 
--- a load that failed ends the call, and the input and the output are as before
+-- a load that failed was the one load, of the file that the words name, and ends the call: the input and the output are as before
 abbrev pub FailedLoadEnds : Type 0
 FailedLoadEnds = (words : List (List ℕ)) (before after : Outside) (status : Status) →
     Headline words before after status → before.files.faults < after.files.faults →
-    (status ≡ ReadFault) × (after.input ≡ before.input) × (after.output ≡ before.output)
+    (status ≡ ReadFault) × LoadFailed words before after
 
--- a read that failed ends it, and no other count rose but, at the fault's line, that of the error output
+-- a read that failed ends it, and nothing else failed but, at the fault's line, the error output
 abbrev pub FailedReadEnds : Type 0
 FailedReadEnds = (words : List (List ℕ)) (before after : Outside) (status : Status) →
     Headline words before after status → before.input.faults < after.input.faults →
-    (status ≡ ReadFault) × CountStays before.files after.files × CountStays before.output after.output
+    (status ≡ ReadFault) × LoadsAsked words before after × CountStays before.output after.output
 
 -- and so does a write of the output
 abbrev pub FailedWriteEnds : Type 0
 FailedWriteEnds = (words : List (List ℕ)) (before after : Outside) (status : Status) →
     Headline words before after status → before.output.faults < after.output.faults →
-    (status ≡ WriteFault) × CountStays before.files after.files × CountStays before.input after.input
+    (status ≡ WriteFault) × LoadsAsked words before after × CountStays before.input after.input
 
 -- words that are faulty or ask for a watcher that isn't there are never answered by a read fault, and the input is left as
 -- it was
 abbrev pub FaultyWordsReadNothing : Type 0
 FaultyWordsReadNothing = (words : List (List ℕ)) (before after : Outside) → IsNoRequest words before.watchers →
-    (Headline words before after ReadFault → ⊥) × (InputLeft words before after → after.input.held ≡ before.input.held)
+    (Headline words before after ReadFault → ⊥) × (InputLeft words before after → after.input ≡ before.input)
 
 -- exactly they end so
 abbrev pub WordsExactly : Type 0

@@ -1,7 +1,6 @@
 -- What is seen of the outside at one moment.
 use Rattle.std.specs.Prelude.{ℕ, List}
-use Rattle.setl_top_status.specs.Seen.{Seen}
-use Rattle.setl_top_status.specs.code.Loads.{SeenFiles}
+use Rattle.setl_top_status.specs.Seen.{Seen, SeenFiles}
 use Rattle.setl_watch.specs.Watches.{Watch}
 
 -- the watchers that a call is handed, and what is seen of its four objects

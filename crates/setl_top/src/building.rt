@@ -4,7 +4,7 @@ ghost use Rattle.setl_program_laws.specs.Claims.{IsAccepted};
 ghost use Rattle.setl_top.specs.Built.{IsBuilt, IsLongCode};
 ghost use Rattle.setl_top.specs.code.Builds.{WritesCode, Builds};
 ghost use Rattle.setl_top_rules.specs.Rules.{AreModes};
-ghost use Rattle.setl_top_status.specs.Seen.{seen};
+ghost use Rattle.setl_top_status.specs.Seen.{seen, seen_files};
 
 use crate::Status;
 use crate::coding::{code_of_program, program_of_source};
@@ -40,7 +40,7 @@ fn write_code_file<O: Sink, E: Sink>(
 ) -> Status
     requires modes { AreModes source.tree source.modes }
     requires accepted { IsAccepted source.tree }
-    ensures { WritesCode source.tree (seen O.held O.faults out.old) (seen O.held O.faults out.new) (seen E.held E.faults err.old) (seen E.held E.faults err.new) result }
+    ensures { WritesCode source.tree (seen O.held O.calls O.faults out.old) (seen O.held O.calls O.faults out.new) (seen E.held E.calls E.faults err.old) (seen E.held E.calls E.faults err.new) result }
 {
     match built(alloc, source) {
         Ok(Some(bytes)) => write_text(&bytes, out, err),
@@ -58,7 +58,7 @@ pub fn build_file<F: Files, O: Sink, E: Sink>(
     out: &mut O,
     err: &mut E,
 ) -> Status
-    ensures { Builds name.now (seen F.texts F.faults files.old) (seen F.texts F.faults files.new) (seen O.held O.faults out.old) (seen O.held O.faults out.new) (seen E.held E.faults err.old) (seen E.held E.faults err.new) result }
+    ensures { Builds name.now (seen_files F.texts F.asked F.faults files.old) (seen_files F.texts F.asked F.faults files.new) (seen O.held O.calls O.faults out.old) (seen O.held O.calls O.faults out.new) (seen E.held E.calls E.faults err.old) (seen E.held E.calls E.faults err.new) result }
 {
     let source = match load_program(alloc, name, files, err) {
         Ok(source) => source,

@@ -8,7 +8,7 @@ ghost use Rattle.setl_program_laws.specs.Claims.{IsAccepted};
 ghost use Rattle.setl_top.specs.code.Debugs.{Debugs, session_of};
 ghost use Rattle.setl_top_rules.specs.Rules.{AreModes};
 ghost use Rattle.setl_top_session.specs.code.Follows.{FollowsScript};
-ghost use Rattle.setl_top_status.specs.Seen.{seen};
+ghost use Rattle.setl_top_status.specs.Seen.{seen, seen_files};
 
 use crate::Status;
 use crate::coding::program_of_source;
@@ -54,7 +54,7 @@ fn follow_source<O: Sink, E: Sink>(
 ) -> Status
     requires modes { AreModes source.tree source.modes }
     requires accepted { IsAccepted source.tree }
-    ensures { FollowsScript (session_of source.tree based script.now) (seen O.held O.faults out.old) (seen O.held O.faults out.new) (seen E.held E.faults err.old) (seen E.held E.faults err.new) result }
+    ensures { FollowsScript (session_of source.tree based script.now) (seen O.held O.calls O.faults out.old) (seen O.held O.calls O.faults out.new) (seen E.held E.calls E.faults err.old) (seen E.held E.calls E.faults err.new) result }
 {
     setl_program_laws::accepted_is_formed();
     setl_code_may_run::code_may_run();
@@ -85,7 +85,7 @@ pub fn debug_file<F: Files, I: Source, O: Sink, E: Sink>(
     out: &mut O,
     err: &mut E,
 ) -> Status
-    ensures { Debugs based name.now (seen F.texts F.faults files.old) (seen F.texts F.faults files.new) (seen I.left I.faults input.old) (seen I.left I.faults input.new) (seen O.held O.faults out.old) (seen O.held O.faults out.new) (seen E.held E.faults err.old) (seen E.held E.faults err.new) result }
+    ensures { Debugs based name.now (seen_files F.texts F.asked F.faults files.old) (seen_files F.texts F.asked F.faults files.new) (seen I.left I.calls I.faults input.old) (seen I.left I.calls I.faults input.new) (seen O.held O.calls O.faults out.old) (seen O.held O.calls O.faults out.new) (seen E.held E.calls E.faults err.old) (seen E.held E.calls E.faults err.new) result }
 {
     let source = match load_program(alloc, name, files, err) {
         Ok(source) => source,

@@ -3,7 +3,7 @@ ghost use Rattle.std.specs.Prelude.{◌≡◌, ℕ, ◌<◌, ◌^◌, List, map,
 ghost use Rattle.setl_top.specs.Headline.{Headline, InputLeft, CheckLeavesRest, ListingLeavesInput, BuildLeavesInput, AdviceLeavesInput, ExplanationLeavesInput, TrialLeavesFilesAndInput};
 ghost use Rattle.setl_top.specs.Outside.{outside};
 ghost use Rattle.setl_top.specs.Watching.{asked_for, IsThere};
-ghost use Rattle.setl_top_status.specs.Seen.{seen};
+ghost use Rattle.setl_top_status.specs.Seen.{seen, seen_files};
 ghost use Rattle.setl_watch.specs.Watches.{Watch};
 ghost use Rattle.setl_top_words.specs.code.Commands.{options_now};
 ghost use Rattle.setl_top_words.specs.Words.{Run, Spells};
@@ -63,10 +63,11 @@ use std::alloc::Global;
 /// ahead. A check leaves `input` and `out` as they were, however it ends, a listing, a build, advice and an explanation leave
 /// `input` as it was, and a trial `files` and `input`.
 ///
-/// `ReadFault` comes only where the words name a file and the count of faults of `files` rose in the call, or that of
-/// `input` at a `read` or in a script, and `WriteFault` only where the count of `out` or `err` rose. `NoMemory` is the answer
-/// to want of memory and to a count that passes the greatest number that it has room for; no clause says when it comes. After
-/// these the error line is tried once.
+/// Where the words name a file, `files` are asked for it once, and for no other; where they name none, for none. `ReadFault`
+/// comes only where this load failed, or a read of `input` at a `read` or in a script, and `WriteFault` only where a write to
+/// `out` or `err` failed: one fault was counted then, and nothing is tried again. `NoMemory` is the answer to want of memory
+/// and to a count that passes the greatest number that it has room for; no clause says when it comes. After these the error
+/// line is tried once.
 pub fn setl<F: Files, I: Source, O: Sink, E: Sink>(
     alloc: Global,
     words: &[String],
@@ -76,31 +77,32 @@ pub fn setl<F: Files, I: Source, O: Sink, E: Sink>(
     out: &mut O,
     err: &mut E,
 ) -> Status
-    ensures headline { let before = outside (map (λ w. watch w) watchers.items) (seen F.texts F.faults files.old) (seen I.left I.faults input.old) (seen O.held O.faults out.old) (seen E.held E.faults err.old) in
-        let after = outside (map (λ w. watch w) watchers.items) (seen F.texts F.faults files.new) (seen I.left I.faults input.new) (seen O.held O.faults out.new) (seen E.held E.faults err.new) in
+    ensures headline { let before = outside (map (λ w. watch w) watchers.items) (seen_files F.texts F.asked F.faults files.old) (seen I.left I.calls I.faults input.old) (seen O.held O.calls O.faults out.old) (seen E.held E.calls E.faults err.old) in
+        let after = outside (map (λ w. watch w) watchers.items) (seen_files F.texts F.asked F.faults files.new) (seen I.left I.calls I.faults input.new) (seen O.held O.calls O.faults out.new) (seen E.held E.calls E.faults err.new) in
         Headline (map string_bytes words.now) before after result }
-    ensures input { let before = outside (map (λ w. watch w) watchers.items) (seen F.texts F.faults files.old) (seen I.left I.faults input.old) (seen O.held O.faults out.old) (seen E.held E.faults err.old) in
-        let after = outside (map (λ w. watch w) watchers.items) (seen F.texts F.faults files.new) (seen I.left I.faults input.new) (seen O.held O.faults out.new) (seen E.held E.faults err.new) in
+    ensures input { let before = outside (map (λ w. watch w) watchers.items) (seen_files F.texts F.asked F.faults files.old) (seen I.left I.calls I.faults input.old) (seen O.held O.calls O.faults out.old) (seen E.held E.calls E.faults err.old) in
+        let after = outside (map (λ w. watch w) watchers.items) (seen_files F.texts F.asked F.faults files.new) (seen I.left I.calls I.faults input.new) (seen O.held O.calls O.faults out.new) (seen E.held E.calls E.faults err.new) in
         InputLeft (map string_bytes words.now) before after }
-    ensures rest { let before = outside (map (λ w. watch w) watchers.items) (seen F.texts F.faults files.old) (seen I.left I.faults input.old) (seen O.held O.faults out.old) (seen E.held E.faults err.old) in
-        let after = outside (map (λ w. watch w) watchers.items) (seen F.texts F.faults files.new) (seen I.left I.faults input.new) (seen O.held O.faults out.new) (seen E.held E.faults err.new) in
+    ensures rest { let before = outside (map (λ w. watch w) watchers.items) (seen_files F.texts F.asked F.faults files.old) (seen I.left I.calls I.faults input.old) (seen O.held O.calls O.faults out.old) (seen E.held E.calls E.faults err.old) in
+        let after = outside (map (λ w. watch w) watchers.items) (seen_files F.texts F.asked F.faults files.new) (seen I.left I.calls I.faults input.new) (seen O.held O.calls O.faults out.new) (seen E.held E.calls E.faults err.new) in
         CheckLeavesRest (map string_bytes words.now) before after }
-    ensures listing { let before = outside (map (λ w. watch w) watchers.items) (seen F.texts F.faults files.old) (seen I.left I.faults input.old) (seen O.held O.faults out.old) (seen E.held E.faults err.old) in
-        let after = outside (map (λ w. watch w) watchers.items) (seen F.texts F.faults files.new) (seen I.left I.faults input.new) (seen O.held O.faults out.new) (seen E.held E.faults err.new) in
+    ensures listing { let before = outside (map (λ w. watch w) watchers.items) (seen_files F.texts F.asked F.faults files.old) (seen I.left I.calls I.faults input.old) (seen O.held O.calls O.faults out.old) (seen E.held E.calls E.faults err.old) in
+        let after = outside (map (λ w. watch w) watchers.items) (seen_files F.texts F.asked F.faults files.new) (seen I.left I.calls I.faults input.new) (seen O.held O.calls O.faults out.new) (seen E.held E.calls E.faults err.new) in
         ListingLeavesInput (map string_bytes words.now) before after }
-    ensures build { let before = outside (map (λ w. watch w) watchers.items) (seen F.texts F.faults files.old) (seen I.left I.faults input.old) (seen O.held O.faults out.old) (seen E.held E.faults err.old) in
-        let after = outside (map (λ w. watch w) watchers.items) (seen F.texts F.faults files.new) (seen I.left I.faults input.new) (seen O.held O.faults out.new) (seen E.held E.faults err.new) in
+    ensures build { let before = outside (map (λ w. watch w) watchers.items) (seen_files F.texts F.asked F.faults files.old) (seen I.left I.calls I.faults input.old) (seen O.held O.calls O.faults out.old) (seen E.held E.calls E.faults err.old) in
+        let after = outside (map (λ w. watch w) watchers.items) (seen_files F.texts F.asked F.faults files.new) (seen I.left I.calls I.faults input.new) (seen O.held O.calls O.faults out.new) (seen E.held E.calls E.faults err.new) in
         BuildLeavesInput (map string_bytes words.now) before after }
-    ensures advice { let before = outside (map (λ w. watch w) watchers.items) (seen F.texts F.faults files.old) (seen I.left I.faults input.old) (seen O.held O.faults out.old) (seen E.held E.faults err.old) in
-        let after = outside (map (λ w. watch w) watchers.items) (seen F.texts F.faults files.new) (seen I.left I.faults input.new) (seen O.held O.faults out.new) (seen E.held E.faults err.new) in
+    ensures advice { let before = outside (map (λ w. watch w) watchers.items) (seen_files F.texts F.asked F.faults files.old) (seen I.left I.calls I.faults input.old) (seen O.held O.calls O.faults out.old) (seen E.held E.calls E.faults err.old) in
+        let after = outside (map (λ w. watch w) watchers.items) (seen_files F.texts F.asked F.faults files.new) (seen I.left I.calls I.faults input.new) (seen O.held O.calls O.faults out.new) (seen E.held E.calls E.faults err.new) in
         AdviceLeavesInput (map string_bytes words.now) before after }
-    ensures explanation { let before = outside (map (λ w. watch w) watchers.items) (seen F.texts F.faults files.old) (seen I.left I.faults input.old) (seen O.held O.faults out.old) (seen E.held E.faults err.old) in
-        let after = outside (map (λ w. watch w) watchers.items) (seen F.texts F.faults files.new) (seen I.left I.faults input.new) (seen O.held O.faults out.new) (seen E.held E.faults err.new) in
+    ensures explanation { let before = outside (map (λ w. watch w) watchers.items) (seen_files F.texts F.asked F.faults files.old) (seen I.left I.calls I.faults input.old) (seen O.held O.calls O.faults out.old) (seen E.held E.calls E.faults err.old) in
+        let after = outside (map (λ w. watch w) watchers.items) (seen_files F.texts F.asked F.faults files.new) (seen I.left I.calls I.faults input.new) (seen O.held O.calls O.faults out.new) (seen E.held E.calls E.faults err.new) in
         ExplanationLeavesInput (map string_bytes words.now) before after }
-    ensures trial { let before = outside (map (λ w. watch w) watchers.items) (seen F.texts F.faults files.old) (seen I.left I.faults input.old) (seen O.held O.faults out.old) (seen E.held E.faults err.old) in
-        let after = outside (map (λ w. watch w) watchers.items) (seen F.texts F.faults files.new) (seen I.left I.faults input.new) (seen O.held O.faults out.new) (seen E.held E.faults err.new) in
+    ensures trial { let before = outside (map (λ w. watch w) watchers.items) (seen_files F.texts F.asked F.faults files.old) (seen I.left I.calls I.faults input.old) (seen O.held O.calls O.faults out.old) (seen E.held E.calls E.faults err.old) in
+        let after = outside (map (λ w. watch w) watchers.items) (seen_files F.texts F.asked F.faults files.new) (seen I.left I.calls I.faults input.new) (seen O.held O.calls O.faults out.new) (seen E.held E.calls E.faults err.new) in
         TrialLeavesFilesAndInput (map string_bytes words.now) before after }
 {
+    setl_top_words::one_command();
     match read_words(words) {
         Some(Command::Run(kind, asked, name)) => {
             run_asked(alloc, kind, asked, name, watchers, files, input, out, err)
@@ -130,13 +132,14 @@ fn run_asked<F: Files, I: Source, O: Sink, E: Sink>(
     err: &mut E,
 ) -> Status
     requires { asked.turns < 2 ^ 63 }
-    ensures headline { let before = outside (map (λ w. watch w) watchers.items) (seen F.texts F.faults files.old) (seen I.left I.faults input.old) (seen O.held O.faults out.old) (seen E.held E.faults err.old) in
-        let after = outside (map (λ w. watch w) watchers.items) (seen F.texts F.faults files.new) (seen I.left I.faults input.new) (seen O.held O.faults out.new) (seen E.held E.faults err.new) in
+    ensures headline { let before = outside (map (λ w. watch w) watchers.items) (seen_files F.texts F.asked F.faults files.old) (seen I.left I.calls I.faults input.old) (seen O.held O.calls O.faults out.old) (seen E.held E.calls E.faults err.old) in
+        let after = outside (map (λ w. watch w) watchers.items) (seen_files F.texts F.asked F.faults files.new) (seen I.left I.calls I.faults input.new) (seen O.held O.calls O.faults out.new) (seen E.held E.calls E.faults err.new) in
         (words : List (List ℕ)) → Spells words (Run kind (options_now asked) name.now) → Headline words before after result }
-    ensures input { let before = outside (map (λ w. watch w) watchers.items) (seen F.texts F.faults files.old) (seen I.left I.faults input.old) (seen O.held O.faults out.old) (seen E.held E.faults err.old) in
-        let after = outside (map (λ w. watch w) watchers.items) (seen F.texts F.faults files.new) (seen I.left I.faults input.new) (seen O.held O.faults out.new) (seen E.held E.faults err.new) in
+    ensures input { let before = outside (map (λ w. watch w) watchers.items) (seen_files F.texts F.asked F.faults files.old) (seen I.left I.calls I.faults input.old) (seen O.held O.calls O.faults out.old) (seen E.held E.calls E.faults err.old) in
+        let after = outside (map (λ w. watch w) watchers.items) (seen_files F.texts F.asked F.faults files.new) (seen I.left I.calls I.faults input.new) (seen O.held O.calls O.faults out.new) (seen E.held E.calls E.faults err.new) in
         (words : List (List ℕ)) → Spells words (Run kind (options_now asked) name.now) → InputLeft words before after }
 {
+    setl_top_words::one_command();
     let mut watchers = watchers;
     if !keep_asked(&mut watchers, asked.watch) {
         return tell(err, b"no such watcher\n", Status::Words);
@@ -167,11 +170,11 @@ fn run_file<F: Files, I: Source, O: Sink, E: Sink>(
     err: &mut E,
 ) -> Status
     requires { asked.turns < 2 ^ 63 }
-    ensures headline { (words : List (List ℕ)) (handed : List Watch) → let before = outside handed (seen F.texts F.faults files.old) (seen I.left I.faults input.old) (seen O.held O.faults out.old) (seen E.held E.faults err.old) in
-        let after = outside handed (seen F.texts F.faults files.new) (seen I.left I.faults input.new) (seen O.held O.faults out.new) (seen E.held E.faults err.new) in
+    ensures headline { (words : List (List ℕ)) (handed : List Watch) → let before = outside handed (seen_files F.texts F.asked F.faults files.old) (seen I.left I.calls I.faults input.old) (seen O.held O.calls O.faults out.old) (seen E.held E.calls E.faults err.old) in
+        let after = outside handed (seen_files F.texts F.asked F.faults files.new) (seen I.left I.calls I.faults input.new) (seen O.held O.calls O.faults out.new) (seen E.held E.calls E.faults err.new) in
         Spells words (Run kind (options_now asked) name.now) → IsThere asked.watch handed → map (λ w. watch w) watchers.old.items ≡ asked_for asked.watch handed → Headline words before after result }
-    ensures input { (words : List (List ℕ)) (handed : List Watch) → let before = outside handed (seen F.texts F.faults files.old) (seen I.left I.faults input.old) (seen O.held O.faults out.old) (seen E.held E.faults err.old) in
-        let after = outside handed (seen F.texts F.faults files.new) (seen I.left I.faults input.new) (seen O.held O.faults out.new) (seen E.held E.faults err.new) in
+    ensures input { (words : List (List ℕ)) (handed : List Watch) → let before = outside handed (seen_files F.texts F.asked F.faults files.old) (seen I.left I.calls I.faults input.old) (seen O.held O.calls O.faults out.old) (seen E.held E.calls E.faults err.old) in
+        let after = outside handed (seen_files F.texts F.asked F.faults files.new) (seen I.left I.calls I.faults input.new) (seen O.held O.calls O.faults out.new) (seen E.held E.calls E.faults err.new) in
         Spells words (Run kind (options_now asked) name.now) → IsThere asked.watch handed → map (λ w. watch w) watchers.old.items ≡ asked_for asked.watch handed → InputLeft words before after }
 {
     let ready = match load_ready(alloc, kind, name, files, err) {

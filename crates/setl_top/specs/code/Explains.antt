@@ -2,9 +2,9 @@
 use Rattle.std.specs.Prelude.{◌≡◌, ◌<◌, ◌^◌, ℕ, List, length}
 use Rattle.setl_io.specs.Files.{IsText}
 use Rattle.setl_tree.specs.declared.tree.Tree.{Tree}
-use Rattle.setl_top_status.specs.Lines.{AppendsFront, fault_line}
-use Rattle.setl_top_status.specs.Seen.{Seen, CountStays}
-use Rattle.setl_top_status.specs.code.Loads.{SeenFiles, NotRead}
+use Rattle.setl_top_status.specs.Lines.{TriesLine, fault_line}
+use Rattle.setl_top_status.specs.Seen.{Seen, SeenFiles, LoadsOnce}
+use Rattle.setl_top_status.specs.code.Loads.{NotRead}
 use Rattle.setl_top_status.specs.code.Writes.{Written}
 use Rattle.setl_top_status.specs.declared.fault.Fault.TheVariants as fault
 use Rattle.setl_top_status.specs.declared.reason.Reason.{Reason}
@@ -22,17 +22,17 @@ refused_if_done ends = ends
 -- the explanation was to be written to the output, or memory for it was refused
 pub data WritesExplanation (source : List ℕ) (why : Reason) (out out' err err' : Seen (List ℕ)) : Status → Type 0 where
   explained_so : (text : List ℕ) (ends shown : Status) → IsExplained source why text → Written text out out' err err' ends → shown ≡ refused_if_done ends → WritesExplanation source why out out' err err' shown
-  starved_of : out' ≡ out → AppendsFront err.held err'.held (fault_line fault.NoMemory) → WritesExplanation source why out out' err err' status.NoMemory
+  starved_of : out' ≡ out → TriesLine (fault_line fault.NoMemory) err err' → WritesExplanation source why out out' err err' status.NoMemory
 
 -- what an explanation of a source does
 pub data ExplainsText (source : List ℕ) (out out' err err' : Seen (List ℕ)) : Status → Type 0 where
   no_fault_in : (tree : Tree) → IsProgram source tree → out' ≡ out → err' ≡ err → ExplainsText source out out' err err' status.Done
   refused_for : (why : Reason) (ends : Status) → IsRefusedFor source why → WritesExplanation source why out out' err err' ends → ExplainsText source out out' err err' ends
-  not_known : out' ≡ out → AppendsFront err.held err'.held (fault_line fault.NoMemory) → ExplainsText source out out' err err' status.NoMemory
+  not_known : out' ≡ out → TriesLine (fault_line fault.NoMemory) err err' → ExplainsText source out out' err err' status.NoMemory
 
 -- what an explanation of the source in a file does, by what is seen of the files, of the output and of the error output
 -- before and after
 pub data Explains (name : List ℕ) (files files' : SeenFiles) (out out' err err' : Seen (List ℕ)) : Status → Type 0 where
-  of_text : (source : List ℕ) (ends : Status) → IsText files.held name source → CountStays files files' → ExplainsText source out out' err err' ends → Explains name files files' out out' err err' ends
-  of_long : (source : List ℕ) (ends : Status) → IsText files.held name source → 2 ^ 24 < length source → CountStays files files' → WritesExplanation source reason.TooLong out out' err err' ends → Explains name files files' out out' err err' ends
-  not_there : {ends : Status} → NotRead files files' err err' ends → out' ≡ out → Explains name files files' out out' err err' ends
+  of_text : (source : List ℕ) (ends : Status) → IsText files.held name source → LoadsOnce name files files' → ExplainsText source out out' err err' ends → Explains name files files' out out' err err' ends
+  of_long : (source : List ℕ) (ends : Status) → IsText files.held name source → 2 ^ 24 < length source → LoadsOnce name files files' → WritesExplanation source reason.TooLong out out' err err' ends → Explains name files files' out out' err err' ends
+  not_there : {ends : Status} → NotRead name files files' err err' ends → out' ≡ out → Explains name files files' out out' err err' ends

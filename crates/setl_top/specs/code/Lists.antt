@@ -1,8 +1,7 @@
 -- What becomes of a listing that is to be written.
 use Rattle.std.specs.Prelude.{◌≡◌, ℕ, List}
 use Rattle.setl_tree.specs.declared.tree.Tree.{Tree}
-use Rattle.setl_top_status.specs.Seen.{Seen, CountStays}
-use Rattle.setl_top_status.specs.code.Loads.{SeenFiles}
+use Rattle.setl_top_status.specs.Seen.{Seen, SeenFiles, LoadsOnce}
 use Rattle.setl_top_status.specs.code.Writes.{Written}
 use Rattle.setl_top_status.specs.declared.status.Status.{Status}
 use Rattle.setl_top.specs.Listings.{IsListing}
@@ -16,5 +15,5 @@ pub record WritesListing (tree : Tree) (out out' err err' : Seen (List ℕ)) (en
 
 -- what a listing of a file does, by what is seen of the files, of the output and of the error output before and after
 pub data Lists (name : List ℕ) (files files' : SeenFiles) (out out' err err' : Seen (List ℕ)) : Status → Type 0 where
-  listed_so : (tree : Tree) (ends : Status) → Loaded files.held name tree → CountStays files files' → WritesListing tree out out' err err' ends → Lists name files files' out out' err err' ends
+  listed_so : (tree : Tree) (ends : Status) → Loaded files.held name tree → LoadsOnce name files files' → WritesListing tree out out' err err' ends → Lists name files files' out out' err err' ends
   not_listed : (ends : Status) → NotLoaded name files files' err err' ends → out' ≡ out → Lists name files files' out out' err err' ends

@@ -10,8 +10,8 @@ use Rattle.setl_machine_control.specs.Declaring.{IsBare, AreOfMain}
 use Rattle.setl_program.specs.code.Plain.{plain_declared}
 use Rattle.setl_top_images.specs.CodeFiles.{IsFlawed, flaw_line}
 use Rattle.setl_top_images.specs.declared.images.Flaw.{Flaw}
-use Rattle.setl_top_status.specs.Seen.{Seen, CountStays}
-use Rattle.setl_top_status.specs.code.Loads.{SeenFiles, NotRead}
+use Rattle.setl_top_status.specs.Seen.{Seen, SeenFiles, LoadsOnce}
+use Rattle.setl_top_status.specs.code.Loads.{NotRead}
 use Rattle.setl_top_status.specs.code.Tells.{Tells}
 use Rattle.setl_top_status.specs.declared.status.Status.{Status}
 use Rattle.setl_top_status.specs.declared.status.Status.TheVariants as status
@@ -46,8 +46,8 @@ pub record LoadedReady (kind : FileKind) (texts : Texts) (name : List ℕ) (read
 
 -- why a file is no code that is ready to run, and what was told of it
 pub data NotCode (name : List ℕ) (files files' : SeenFiles) (err err' : Seen (List ℕ)) : Status → Type 0 where
-  flawed_so : (bytes : List ℕ) (flaw : Flaw) (ends : Status) → IsText files.held name bytes → IsFlawed bytes flaw → CountStays files files' → Tells status.Refused (flaw_line flaw ++ 10 ∷ []) err err' ends → NotCode name files files' err err' ends
-  unread_so : (ends : Status) → NotRead files files' err err' ends → NotCode name files files' err err' ends
+  flawed_so : (bytes : List ℕ) (flaw : Flaw) (ends : Status) → IsText files.held name bytes → IsFlawed bytes flaw → LoadsOnce name files files' → Tells status.Refused (flaw_line flaw ++ 10 ∷ []) err err' ends → NotCode name files files' err err' ends
+  unread_so : (ends : Status) → NotRead name files files' err err' ends → NotCode name files files' err err' ends
 
 -- why what a file holds isn't ready to run
 abbrev pub NotReady : FileKind → (name : List ℕ) → (files files' : SeenFiles) → (err err' : Seen (List ℕ)) → Status → Type 0

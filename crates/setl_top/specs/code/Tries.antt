@@ -8,7 +8,7 @@ use Rattle.setl_program.specs.Program.{Program}
 use Rattle.setl_model_runs.specs.Events as run
 use Rattle.setl_top.specs.Accepted.{Accepted, IsRefusedFor}
 use Rattle.setl_top_status.specs.Ends.{error_line}
-use Rattle.setl_top_status.specs.Lines.{AppendsFront, fault_line}
+use Rattle.setl_top_status.specs.Lines.{TriesLine, fault_line}
 use Rattle.setl_top_status.specs.Reasons.{reason_line}
 use Rattle.setl_top.specs.Trials.{trial_source, trial_input, trial_line}
 use Rattle.setl_top_status.specs.Seen.{Seen}
@@ -57,4 +57,4 @@ pub data Tries (seed nodes : ℕ) (out out' err err' : Seen (List ℕ)) : Status
   trial_done : (printed : List ℕ) (ends : Status) → TrialRuns seed nodes printed run.Done → Written (trial_line seed nodes printed) out out' err err' ends → Tries seed nodes out out' err err' ends
   trial_stopped : (printed : List ℕ) (kind : run.StopKind) (line : ℕ) (ends : Status) → TrialRuns seed nodes printed (run.Stopped kind line) → out' ≡ out → Tells status.Stopped (error_line (run.Stopped kind line)) err err' ends → Tries seed nodes out out' err err' ends
   trial_spent : (printed : List ℕ) (ends : Status) → TrialRuns seed nodes printed run.Spent → out' ≡ out → Tells status.Spent (error_line run.Spent) err err' ends → Tries seed nodes out out' err err' ends
-  trial_starved : out' ≡ out → AppendsFront err.held err'.held (fault_line fault.NoMemory) → Tries seed nodes out out' err err' status.NoMemory
+  trial_starved : out' ≡ out → TriesLine (fault_line fault.NoMemory) err err' → Tries seed nodes out out' err err' status.NoMemory

@@ -7,7 +7,7 @@ use Rattle.setl_top.proofs.top.run_asked.Goals as goal
 
 pub returns-then-not-keep_asked-clause-headline : goal.returns-then-not-keep_asked-clause-headline
 returns-then-not-keep_asked-clause-headline g c = λ words s.
-    no_watcher_ends words _ _ (Run c.args.kind (options_now c.args.asked) c.args.name.now) s (λ there. true≢false (sym (c.keep_asked.ensures.there.1 there) ∙ c.if-not-keep_asked.true)) refl (record { input = refl; output = refl }) _ c.tell.ensures.told
+    no_watcher_ends c.one_command.ensures words _ _ (Run c.args.kind (options_now c.args.asked) c.args.name.now) s (λ there. true≢false (sym (c.keep_asked.ensures.there.1 there) ∙ c.if-not-keep_asked.true)) refl (record { input = refl; output = refl }) _ c.tell.ensures.told
 
 pub returns : goal.returns
 returns g c =

@@ -45,7 +45,7 @@ returns-in-Some-Explain-clause-headline g c =
 
 pub returns-in-Some-TellStop-clause-headline : goal.returns-in-Some-TellStop-clause-headline
 returns-in-Some-TellStop-clause-headline g c =
-    stop_ends _ _ _ _ (rw c.in-Some-TellStop.field-0-is at c.in-Some-TellStop.ensures.plain) refl refl _ c.tell_stop.ensures
+    stop_ends c.one_command.ensures _ _ _ _ (rw c.in-Some-TellStop.field-0-is at c.in-Some-TellStop.ensures.plain) refl refl _ c.tell_stop.ensures
 
 pub returns-in-Some-Debug-clause-headline : goal.returns-in-Some-Debug-clause-headline
 returns-in-Some-Debug-clause-headline g c =
@@ -53,7 +53,7 @@ returns-in-Some-Debug-clause-headline g c =
 
 pub returns-in-Some-Trial-clause-headline : goal.returns-in-Some-Trial-clause-headline
 returns-in-Some-Trial-clause-headline g c =
-    trial_ends _ _ _ _ _ (rw c.in-Some-Trial.field-0-is at c.in-Some-Trial.ensures.plain) (record { files = refl; input = refl }) _ c.run_trial.ensures
+    trial_ends c.one_command.ensures _ _ _ _ _ (rw c.in-Some-Trial.field-0-is at c.in-Some-Trial.ensures.plain) (record { files = refl; input = refl }) _ c.run_trial.ensures
 
 pub returns-in-None-clause-input : goal.returns-in-None-clause-input
 returns-in-None-clause-input g c = untouched refl
