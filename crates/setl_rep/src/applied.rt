@@ -5,6 +5,7 @@ ghost use Rattle.setl_value.specs.code.DatumOf.{part};
 ghost use Rattle.setl_operators_table.specs.Operators.{op_of, TakesOperands};
 ghost use Rattle.setl_rep_plain.specs.Standing.{held_value, IsHeldOver};
 ghost use Rattle.setl_rep.specs.ByKernel.{has_changed, has_kernel, is_combined, is_told, IsLikeFirst};
+ghost use Rattle.setl_rep.specs.ByTable.{has_table, IsByTable};
 ghost use Rattle.setl_rep.specs.Standing.{AreHeldOver};
 ghost use Rattle.setl_rep.specs.Telling.{TellsHeld};
 ghost use Rattle.setl_rep_forms.specs.FormOf.{form};
@@ -13,6 +14,7 @@ ghost use Rattle.setl_rep_forms.specs.Stands.{IsOver};
 
 use crate::by_change::with_or_less;
 use crate::by_kernel::by_kernel;
+use crate::by_table::{image_of, images_of, less_point, points};
 use setl_operators::{Answer, OpFault, Operator, op};
 use setl_rep_bases::Bases;
 use setl_rep_forms::Held;
@@ -37,6 +39,10 @@ pub struct Applied {
 /// the second is a member of its base, or, for `less`, any value that is held plain or as an element (`has_changed`): there
 /// the result is the set in its form, changed in place where nobody else holds it.
 ///
+/// Nor is one made of a map that is held as a table, at a point that is held plain or as an element (`has_table`): `domain f` is
+/// the set of the numbers of its points, `f(x)`, where it keeps one image for each point, and `f{x}`, where it keeps sets, are in
+/// the form in which the map has them, and `f lessf x` is the map in its form, changed in place where nobody else holds it.
+///
 /// The operands stand over the bases for values at most 500 deep, or for `om`, and are as many as the operator takes. What is
 /// held plain goes to `op` as it is.
 pub fn apply(
@@ -52,16 +58,21 @@ pub fn apply(
     ensures over { IfOk result (λ a. IsOver bases.now (form a.held)) }
     ensures form { IfOk result (λ a. is_combined what ≡ true → has_kernel what (map form args.items) ≡ true → IsLikeFirst (map form args.items) (form a.held)) }
     ensures changed { IfOk result (λ a. has_changed bases.now what (map form args.items) ≡ true → IsLikeFirst (map form args.items) (form a.held)) }
+    ensures table { IfOk result (λ a. has_table what (map form args.items) ≡ true → IsByTable bases.now what (map form args.items) (form a.held)) }
     ensures free { is_told what ≡ true → has_kernel what (map form args.items) ≡ true → IsOk result }
 {
     match what {
+        Operator::Domain => points(alloc, args, bases, turns),
+        Operator::Get => image_of(alloc, args, bases, turns),
+        Operator::Images => images_of(alloc, args, bases, turns),
+        Operator::Lessf => less_point(alloc, args, bases, turns),
         Operator::With => with_or_less(alloc, true, args, bases, turns),
         Operator::Less => with_or_less(alloc, false, args, bases, turns),
         _ => by_forms(alloc, what, args, bases, turns),
     }
 }
 
-// The same of all operators, but for what is said of changes.
+// The same of all operators, but for what is said of changes and of maps.
 fn by_forms(
     alloc: Global,
     what: Operator,
@@ -79,6 +90,22 @@ fn by_forms(
     if let Some(applied) = by_kernel(alloc, what, &args, bases)? {
         return Ok(applied);
     }
+    by_values(alloc, what, args, bases, turns)
+}
+
+/// What an operator makes of the values of its operands. It answers as `apply` does.
+pub(crate) fn by_values(
+    alloc: Global,
+    what: Operator,
+    args: Vec<Held>,
+    bases: &Bases,
+    turns: u64,
+) -> Result<Applied, OpFault>
+    requires count { TakesOperands what (length args.items) }
+    requires over { AreHeldOver bases.now args.items }
+    ensures told { TellsHeld bases.now result (op_of what (map (held_value bases.now) args.items) turns) }
+    ensures over { IfOk result (λ a. IsOver bases.now (form a.held)) }
+{
     let values = values(alloc, args, bases)?;
     let answer = op(alloc, what, values, turns)?;
     Ok(in_a_form(answer))

@@ -70,8 +70,8 @@ fn operator(on: bool) -> Operator
     if on { Operator::With } else { Operator::Less }
 }
 
-// Both operands.
-fn both(args: Vec<Held>) -> (Held, Held)
+/// Both operands.
+pub(crate) fn both(args: Vec<Held>) -> (Held, Held)
     requires { length args.items ≡ 2 }
     ensures { args.items ≡ result.0 ∷ result.1 ∷ [] }
 {

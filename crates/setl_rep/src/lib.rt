@@ -4,8 +4,10 @@
 mod applied;
 mod by_change;
 mod by_kernel;
+mod by_table;
 mod conversion;
 mod own_form;
+mod own_map;
 
 pub use applied::{Applied, apply};
 pub use conversion::{ConvertFault, convert};

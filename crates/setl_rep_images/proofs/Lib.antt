@@ -1,3 +1,4 @@
 mod Shallow
 mod Selected
 mod Points
+mod Removed

@@ -2,7 +2,8 @@
 use Rattle.std.proofs.Common.{◌≡◌, ◌∙◌, ℕ, ◌≤◌, ◌==◌, Bool, true, false, cond, List, [], ◌∷◌, ◌++◌, length, map, Option, None, Some, IsSome, refl, sym, ap, subst, arith}
 use Rattle.std.specs.Prelude.{slice_get}
 use Rattle.std.specs.Bool.{if◌then◌else◌}
-use Rattle.std.specs.Option.{is_some, option_and_then}
+use Rattle.std.specs.Borrow.{Bor}
+use Rattle.std.specs.Option.{is_some, option_and_then, IfSome}
 use Rattle.std.specs.declared.cmp.Ordering.{Ordering}
 use Rattle.std.specs.declared.cmp.Ordering.TheVariants.{Less, Equal, Greater}
 use Rattle.std.proofs.lemmas.Bool.{and_parts, and_from}
@@ -16,12 +17,18 @@ use Rattle.setl_operators_table.specs.declared.Operator.TheVariants.{Domain, Get
 use Rattle.setl_operators_table.specs.Collections.{on_map}
 use Rattle.setl_operators_table.specs.Operators.{op_of}
 use Rattle.setl_operators_table.specs.Outcome.{Gives, Fails, KindFault, set_value}
-use Rattle.setl_base.specs.Base.{BaseState, IsBase}
+use Rattle.setl_base.specs.Base.{BaseState, IsBase, find}
 use Rattle.setl_rep_bases.specs.declared.BaseId.{BaseId}
 use Rattle.setl_rep_bases.specs.Bases.{BasesState, base_at, IsThere}
 use Rattle.setl_rep_forms.specs.Form.{Form, Layout, Entries, no_entry, entry_then, om, plain, element, numbers, table, handles}
+use Rattle.setl_rep_forms.specs.FormOf.{form, of_om}
 use Rattle.setl_rep_forms.specs.Stands.{stands, value_at, pairs_in, pairs_of, images_in, IsOver, AreOver, IsContent}
-use Rattle.setl_rep_maps.specs.Contents.{table_of, content_of, map_pairs, images_from, HasBase, IsPoint}
+use Rattle.setl_rep_forms.specs.declared.held.Held.{Held}
+use Rattle.setl_rep_forms.specs.declared.held.Held.TheVariants as code
+use Rattle.setl_rep_maps.specs.Contents.{table_of, content_of, map_pairs, images_from, HasBase, IsKeyedForm, IsPoint}
+use Rattle.setl_rep_maps.specs.Laws.{ContentsStandForImages, NoImagesElsewhere}
+use Rattle.setl_rep_maps.specs.code.Lent.{lent_form}
+use Rattle.setl_rep_plain.specs.Standing.{held_value, IsHeldOver}
 use Rattle.setl_rep_tables.specs.Tables.{content_in, images_of, table_pairs}
 use Rattle.setl_rep_images.proofs.Shallow.{images_depth}
 
@@ -41,7 +48,7 @@ of_entry many (Some x) None = refl
 of_entry false (Some x) (Some y) = refl
 of_entry true (Some x) (Some y) = paired x (images_in y)
 
-of_entries : (bs : BasesState) (b : BaseState) (many : Bool) (es : Entries) → is_map (pairs_in bs b many es) ≡ true
+pub of_entries : (bs : BasesState) (b : BaseState) (many : Bool) (es : Entries) → is_map (pairs_in bs b many es) ≡ true
 of_entries bs b many no_entry = refl
 of_entries bs b many (entry_then n c es) = both (pairs_of many (value_at b n) (stands bs c)) (pairs_in bs b many es) (of_entry many (value_at b n) (stands bs c)) (of_entries bs b many es)
 
@@ -54,7 +61,7 @@ inserted d (e ∷ es) h a = by (datum_cmp d e) (inserted d es h (and_parts (is_s
     by Equal r = a
     by Greater r = and_from (is_some (pair_parts e)) (is_map (insert_datum d es)) (and_parts (is_some (pair_parts e)) (is_map es) a).0 r
 
-gathered : (ds : List Datum) → is_map ds ≡ true → is_map (set_from ds) ≡ true
+pub gathered : (ds : List Datum) → is_map ds ≡ true → is_map (set_from ds) ≡ true
 gathered [] h = refl
 gathered (d ∷ ds) h = let t = and_parts (is_some (pair_parts d)) (is_map ds) h in inserted d (set_from ds) t.0 (gathered ds t.1)
 
@@ -74,6 +81,16 @@ not_one (y ∷ z ∷ ds) h = refl
 pub only_image : (o : Option Datum) → o ≡ only (images_of false o)
 only_image None = refl
 only_image (Some y) = refl
+
+-- a set of images is the set of these
+pub set_of_content : (o : Option Datum) → IsContent true o → o ≡ Some (set_of (images_of true o))
+set_of_content None h = absurd h
+set_of_content (Some (set ms)) h = ap (λ l. Some (set l)) (sym (elements_of-element_list ms))
+set_of_content (Some (bool z)) h = absurd h
+set_of_content (Some (int z)) h = absurd h
+set_of_content (Some (text z)) h = absurd h
+set_of_content (Some (atom z)) h = absurd h
+set_of_content (Some (tuple z)) h = absurd h
 
 -- ---- contents
 
@@ -139,6 +156,26 @@ module _ (bs : BasesState) (f : Form) (b : BaseId) (many : Bool) (t : table_of f
             (subst (λ g. part_depth (stands bs g) ≤ 500) to.is shallow),
       )
 
+  -- ---- the content of a point
+
+  pub images_at : ContentsStandForImages → IsOver bs f → IsKeyedForm f → IsBase (base_at bs b) → (n : ℕ) (x : Datum) → value_at (base_at bs b) n ≡ Some x → images x (map_pairs bs f) ≡ images_from bs f (content_of f n)
+  images_at law over keyed base n x at = law bs f n x over keyed (has_base base) (is_point n x at)
+
+  pub no_images_at : NoImagesElsewhere → IsKeyedForm f → IsBase (base_at bs b) → (x : Datum) → find (base_at bs b) x ≡ None → images x (map_pairs bs f) ≡ images_of many None
+  no_images_at law keyed base x none = law bs f b many x t keyed (has_base base) none
+
+  pub is_readable : (n : ℕ) (x : Datum) (o : Option (Bor Held)) → IsOver bs f → part_depth (stands bs f) ≤ 500 → lent_form o ≡ content_of f n → images x (map_pairs bs f) ≡ images_from bs f (content_of f n) → IfSome o (λ c. IsHeldOver bs c.now)
+  is_readable n x None over shallow is are = tt
+  is_readable n x (Some c) over shallow is are =
+      let q = readable n x (form c.now) over shallow (sym is) (are ∙ ap (images_from bs f) (sym is)) in
+      record { over = q.0; shallow = q.1 }
+
+  pub is_content : (n : ℕ) (o : Option (Bor Held)) → IsOver bs f → lent_form o ≡ content_of f n → IfSome o (λ c. IsContent many (held_value bs c.now))
+  is_content n None over is = tt
+  is_content n (Some c) over is =
+      let whole = subst (IsOver bs) to.is over in
+      (content_over bs (base_at bs b) many to.entries n (form c.now) whole.1 (sym (ap (λ g. content_of g n) to.is) ∙ sym is)).1
+
   -- ---- operators
 
   abbrev pairs : List Datum
@@ -160,6 +197,17 @@ module _ (bs : BasesState) (f : Form) (b : BaseId) (many : Bool) (t : table_of f
       ∙ ap (on_map (λ g. set_value (images x g))) (element_list-elements_of pairs)
       ∙ ap (λ u. if u then set_value (images x pairs) else Fails KindFault) are_pairs
       ∙ ap (λ u. Gives (Some u) 0) (sym (is ∙ ap (λ g. set_of (images x (map_pairs bs g))) to.is))
+
+  pub gets_nothing : (x : Datum) → images x (map_pairs bs f) ≡ images_of many None → (left : ℕ) → op_of Get (stands bs f ∷ Some x ∷ []) left ≡ Gives (held_value bs code.Om) 0
+  gets_nothing x none = gets x (held_value bs code.Om) (ap (stands bs) of_om ∙ ap only (sym none))
+
+  pub selects_content : (x : Datum) (v : Option Datum) → many ≡ true → IsContent many v → images x (map_pairs bs f) ≡ images_of many v → (left : ℕ) → op_of Images (stands bs f ∷ Some x ∷ []) left ≡ Gives v 0
+  selects_content x v sets content are left =
+      let is : v ≡ Some (set_of (images_of true v)) = set_of_content v (subst (λ m. IsContent m v) sets content) in
+      selects x (set_of (images_of true v)) (ap set_of (ap (λ m. images_of m v) (sym sets) ∙ sym are)) left ∙ ap (λ o. Gives o 0) (sym is)
+
+  pub selects_nothing : (x : Datum) (v : Option Datum) → v ≡ Some (set_of []) → images x (map_pairs bs f) ≡ images_of many None → (left : ℕ) → op_of Images (stands bs f ∷ Some x ∷ []) left ≡ Gives v 0
+  selects_nothing x v is none left = selects x (set_of []) (ap set_of (sym none)) left ∙ ap (λ o. Gives o 0) (sym is)
 
   pub tells_domain : (left : ℕ) → op_of Domain (stands bs f ∷ []) left ≡ Gives (Some (set_of (domain_of (map_pairs bs f)))) 0
   tells_domain left =

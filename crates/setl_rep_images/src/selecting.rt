@@ -1,6 +1,6 @@
 //! `f(x)` and `f{x}`.
 
-ghost use Rattle.std.specs.Prelude.{◌≡◌, ℕ, Bool, true, is_some, IfOk, IfSome, Some, [], ◌∷◌};
+ghost use Rattle.std.specs.Prelude.{◌≡◌, ℕ, Bool, true, false, is_some, IfOk, IfSome, Some, [], ◌∷◌};
 ghost use Rattle.setl_value.specs.code.DatumOf.{datum, part};
 ghost use Rattle.setl_value.specs.Datum.{set_of};
 ghost use Rattle.setl_value.specs.code.Body.{Members};
@@ -8,53 +8,63 @@ ghost use Rattle.setl_map.specs.Maps.{only};
 ghost use Rattle.setl_operators_table.specs.declared.Operator.TheVariants.{Get, Images};
 ghost use Rattle.setl_operators_table.specs.Operators.{op_of};
 ghost use Rattle.setl_operators_table.specs.Outcome.{Gives};
+ghost use Rattle.setl_rep_bases.specs.Bases.{BasesState};
 ghost use Rattle.setl_rep_forms.specs.FormOf.{form};
-ghost use Rattle.setl_rep_images.specs.Kinds.{keeps_sets};
+ghost use Rattle.setl_rep_forms.specs.Stands.{stands, IsOver};
+ghost use Rattle.setl_rep_images.specs.Kinds.{keeps_one, keeps_sets, point_content, IsOfContent};
 ghost use Rattle.setl_rep_maps.specs.Contents.{table_of};
 ghost use Rattle.setl_rep_plain.specs.Standing.{held_value, IsHeldOver};
 ghost use Rattle.setl_rep_tables.specs.Tables.{images_of};
 
-use crate::contents::content_value;
+use crate::contents::point_content;
 use setl_rep_bases::Bases;
 use setl_rep_forms::Held;
 use setl_rep_maps::table_of;
+use setl_rep_plain::plain;
 use setl_value::{SetBody, Value};
 use std::alloc::{AllocError, Global};
 
 /// `f(x)`: the one image of `x`, which is `om` where it has none or several. None exactly where the map isn't held as a table.
 /// Nothing is charged.
 ///
-/// An error is want of memory. The cost is near linear in the sizes of `x` and its images.
+/// A map that keeps one image for each point gives it in the form in which it has it, and no plain value is made. An error is
+/// want of memory. For such a map the cost is near linear in the size of `x` alone, for others in that of its images too.
 pub fn image(
     alloc: Global,
     f: &Held,
     x: &Value,
     bases: &Bases,
-) -> Result<Option<Option<Value>>, AllocError>
+) -> Result<Option<Held>, AllocError>
     requires { IsHeldOver bases.now f.now }
-    ensures value { IfOk result (λ o. IfSome o (λ v. (left : ℕ) → op_of Get (held_value bases.now f.now ∷ Some (datum x.now) ∷ []) left ≡ Gives (part v) 0)) }
+    ensures value { IfOk result (λ o. IfSome o (λ h. (left : ℕ) → op_of Get (held_value bases.now f.now ∷ Some (datum x.now) ∷ []) left ≡ Gives (held_value bases.now h) 0)) }
+    ensures over { IfOk result (λ o. IfSome o (λ h. IsOver bases.now (form h))) }
+    ensures form { IfOk result (λ o. IfSome o (λ h. keeps_one (form f.now) ≡ true → IsOfContent (point_content bases.now (form f.now) (datum x.now)) (form h))) }
     ensures kernel { IfOk result (λ o. is_some o ≡ is_some (table_of (form f.now))) }
 {
     let Some((b, many)) = table_of(f) else {
         return Ok(None);
     };
-    let content = content_value(alloc, f, b, many, x, bases)?;
-    let value = one_of(many, content)?;
-    Ok(Some(value))
+    match point_content(f, b, many, x, bases) {
+        None => Ok(Some(Held::Om)),
+        Some(c) => Ok(Some(one_of(alloc, many, c, bases)?)),
+    }
 }
 
 /// `f{x}`: the set of the images of `x`, in a map that is held as a table and keeps its images as sets; None exactly for other
 /// forms. Nothing is charged.
 ///
-/// An error is want of memory. The cost is near linear in the sizes of `x` and its images.
+/// The set is given in the form in which the map has it, and no plain set is made of it. An error is want of memory. The cost
+/// is near linear in the size of `x`.
 pub fn images(
     alloc: Global,
     f: &Held,
     x: &Value,
     bases: &Bases,
-) -> Result<Option<Value>, AllocError>
+) -> Result<Option<Held>, AllocError>
     requires { IsHeldOver bases.now f.now }
-    ensures value { IfOk result (λ o. IfSome o (λ v. (left : ℕ) → op_of Images (held_value bases.now f.now ∷ Some (datum x.now) ∷ []) left ≡ Gives (Some (datum v)) 0)) }
+    ensures value { IfOk result (λ o. IfSome o (λ h. (left : ℕ) → op_of Images (held_value bases.now f.now ∷ Some (datum x.now) ∷ []) left ≡ Gives (held_value bases.now h) 0)) }
+    ensures over { IfOk result (λ o. IfSome o (λ h. IsOver bases.now (form h))) }
+    ensures form { IfOk result (λ o. IfSome o (λ h. IsOfContent (point_content bases.now (form f.now) (datum x.now)) (form h))) }
     ensures kernel { IfOk result (λ o. is_some o ≡ keeps_sets (form f.now)) }
 {
     let Some((b, many)) = table_of(f) else {
@@ -63,20 +73,25 @@ pub fn images(
     if !many {
         return Ok(None);
     }
-    let content = content_value(alloc, f, b, many, x, bases)?;
-    let value = set_of_images(alloc, content)?;
-    Ok(Some(value))
+    match point_content(f, b, many, x, bases) {
+        None => Ok(Some(no_images(alloc)?)),
+        Some(c) => Ok(Some(c.copy()?)),
+    }
 }
 
-// The one image in a content, which stands for it or for the set of images. An error is want of memory.
-fn one_of(many: bool, content: Option<Value>) -> Result<Option<Value>, AllocError>
-    ensures { IfOk result (λ v. part v ≡ only (images_of many (part content))) }
+// The one image in a content, which stands for it or for the set of images; `om` where that has several. An error is want of
+// memory.
+fn one_of(alloc: Global, many: bool, c: &Held, bases: &Bases) -> Result<Held, AllocError>
+    requires { IsHeldOver bases.now c.now }
+    ensures value { IfOk result (λ h. held_value bases.now h ≡ only (images_of many (held_value bases.now c.now))) }
+    ensures over { IfOk result (λ h. IsOver bases.now (form h)) }
+    ensures form { IfOk result (λ h. many ≡ false → form h ≡ form c.now) }
 {
-    if many {
-        one_of_set(content)
-    } else {
-        Ok(content)
+    if !many {
+        return Ok(c.copy()?);
     }
+    let content = plain(alloc, c, bases)?;
+    Ok(in_plain_form(one_of_set(content)?))
 }
 
 // The one member of a set of images; None where it has several, or there is no set. An error is want of memory.
@@ -106,26 +121,21 @@ fn only_member(s: &SetBody) -> Result<Option<Value>, AllocError>
     Ok(None)
 }
 
-// The set of images that a content stands for, which is empty where there is none. An error is want of memory.
-fn set_of_images(alloc: Global, content: Option<Value>) -> Result<Value, AllocError>
-    ensures { IfOk result (λ v. datum v ≡ set_of (images_of true (part content))) }
+// A value, or `om`, in the plain form.
+fn in_plain_form(v: Option<Value>) -> Held
+    ensures value { (bs : BasesState) → held_value bs result ≡ part v }
+    ensures over { (bs : BasesState) → IsOver bs (form result) }
 {
-    let Some(value) = content else {
-        return no_images(alloc);
-    };
-    match value {
-        Value::Set(s) => Ok(Value::Set(s)),
-        Value::Bool(_) => no_images(alloc),
-        Value::Int(_) => no_images(alloc),
-        Value::Text(_) => no_images(alloc),
-        Value::Atom(_) => no_images(alloc),
-        Value::Tuple(_) => no_images(alloc),
+    match v {
+        None => Held::Om,
+        Some(v) => Held::Plain(v),
     }
 }
 
 // The empty set. An error is want of memory.
-fn no_images(alloc: Global) -> Result<Value, AllocError>
-    ensures { IfOk result (λ v. datum v ≡ set_of []) }
+fn no_images(alloc: Global) -> Result<Held, AllocError>
+    ensures value { IfOk result (λ h. (bs : BasesState) → held_value bs h ≡ Some (set_of [])) }
+    ensures over { IfOk result (λ h. (bs : BasesState) → IsOver bs (form h)) }
 {
-    Ok(Value::Set(SetBody::new(alloc)?))
+    Ok(Held::Plain(Value::Set(SetBody::new(alloc)?)))
 }

@@ -9,12 +9,11 @@ ghost use Rattle.setl_rep_plain.specs.Standing.{IsHeldOver};
 use crate::conversions::expect;
 use crate::holding::{bases, fitting};
 use crate::modes::mode;
-use crate::values::{denoted, put_form, put_value};
+use crate::values::{denoted, put_form};
 use setl_operators::Operator;
 use setl_rep::apply;
 use setl_rep_bases::Bases;
 use setl_rep_forms::Held;
-use setl_rep_images::{domain, image, images};
 use setl_rep_kernels::next;
 use setl_text::push_decimal;
 use std::alloc::{AllocError, Global};
@@ -22,9 +21,8 @@ use std::process::Abort;
 use std::test::Fail;
 
 // Rows, a line each: an operator, the modes in whose forms its operands are held, the members of the first base before, the
-// operands, and behind the last bar the form of the answer, or the fault. A set of numbers is written as these. `image`,
-// `images` and `points` are the calls for what is held as a table, and `walk` goes over a set in the canonical order and tells the
-// numbers.
+// operands, and behind the last bar the form of the answer, or the fault. A set of numbers is written as these. `walk` goes over
+// a set in the canonical order and tells the numbers.
 const ROWS: &str = "in | elmt int ; remote_set elmt int | [30 10] | 10 ; {30 10} | true
 in | elmt int ; sparse_set elmt int | [] | 7 ; {30 10} | false
 in | int ; remote_set elmt int | [] | 30 ; {30 10} | true
@@ -50,23 +48,26 @@ less | sparse_set elmt int ; elmt int | [] | {1 2} ; 2 | sparse 1
 less | remote_set elmt int ; int | [] | {1 2} ; 9 | remote 1 2
 less | remote_set elmt int ; other int | [9] | {1 2} ; 2 | remote 2
 with | tuple elmt int ; int | [] | [1 2] ; 3 | [1 2 3]
-get | sparse_smap elmt int int ; int | [] | {[1 5] [2 6]} ; 2 | 6
 get | tuple elmt int ; int | [] | [7 * 9] ; 3 | 9
+get | sparse_smap elmt int int ; int | [] | {[1 5] [2 6]} ; 2 | 6
+get | remote_smap elmt int elmt int ; elmt int | [3] | {[1 5] [2 6]} ; 2 | elmt 5
+get | remote_smap elmt int elmt int ; int | [3] | {[1 5] [2 6]} ; 3 | *
+get | remote_mmap elmt int sparse_set elmt int ; int | [] | {[1 2] [1 3] [2 7]} ; 2 | 7
 get | remote_mmap elmt int sparse_set elmt int ; elmt int | [] | {[1 2] [1 3]} ; 1 | *
-domain | remote_smap elmt int int | [] | {[1 5] [2 6]} | {1 2}
+get | sparse_smap elmt int int ; int | [] | {[1 5]} ; * | Om
+images | remote_mmap elmt int sparse_set elmt int ; int | [] | {[1 2] [1 3] [2 7]} ; 1 | sparse 2 3
+images | sparse_mmap elmt int remote_set elmt int ; int | [] | {[1 2]} ; 5 | {}
+images | sparse_smap elmt int int ; int | [] | {[1 5]} ; 1 | {5}
+domain | remote_smap elmt int int | [] | {[1 5] [2 6]} | remote 1 2
+domain | sparse_smap elmt int int | [9] | {[2 5] [1 6]} | sparse 2 3
+domain | remote_mmap elmt int sparse_set elmt int | [] | {[1 5] [2 6] [2 1]} | remote 1 2
+domain | remote_smap elmt int int | [] | {} | remote
+domain | general | [] | {[1 2]} | {1}
 range | sparse_smap elmt int elmt int | [] | {[1 5] [2 6]} | {5 6}
-points | sparse_smap elmt int int | [9] | {[2 5] [1 6]} | sparse 2 3
-points | remote_mmap elmt int sparse_set elmt int | [] | {[1 5] [2 6] [2 1]} | remote 1 2
-points | remote_smap elmt int int | [] | {} | remote
-points | general | [] | {[1 2]} | none
-image | sparse_smap elmt int int ; int | [] | {[1 5] [2 6]} ; 2 | 6/
-image | remote_smap elmt int elmt int ; int | [3] | {[1 5] [2 6]} ; 3 | */
-image | remote_mmap elmt int sparse_set elmt int ; int | [] | {[1 2] [1 3] [2 7]} ; 2 | 7/
-image | remote_mmap elmt int sparse_set elmt int ; int | [] | {[1 2] [1 3] [2 7]} ; 1 | */
-image | general ; int | [] | {[1 5]} ; 1 | none
-images | remote_mmap elmt int sparse_set elmt int ; int | [] | {[1 2] [1 3] [2 7]} ; 1 | {2 3}/
-images | sparse_mmap elmt int remote_set elmt int ; int | [] | {[1 2]} ; 5 | {}/
-images | sparse_smap elmt int int ; int | [] | {[1 5]} ; 1 | none
+lessf | sparse_smap elmt int int ; int | [] | {[1 5] [2 6]} ; 1 | sparse map 2(6)
+lessf | remote_mmap elmt int sparse_set elmt int ; elmt int | [] | {[1 5] [1 6] [2 5]} ; 1 | remote map 2(sparse 3)
+lessf | remote_smap elmt int int ; int | [] | {[1 5]} ; 9 | remote map 1(5)
+lessf | general ; int | [] | {[1 5] [2 6]} ; 1 | {[2 6]}
 walk | remote_set elmt int | [30 20 10] | {30 10 20} | 3 2 1
 walk | sparse_set elmt int | [30 20 10] | {30 5 10} | 4 3 1
 walk | general | [] | {1} | none";
@@ -120,7 +121,6 @@ fn put_one(
     let h = fitting(rt, alloc, &mode, denoted(alloc, value)?, bases)?;
     match name {
         "walk" => put_walk(&h, bases, into),
-        "points" => put_points(alloc, &h, bases, into),
         _ => put_applied(alloc, operator(name), one(alloc, h, bases)?, bases, into),
     }
 }
@@ -148,7 +148,7 @@ fn put_two(
     let (first, second) = values.split_once(" ; ").unwrap_or((values, ""));
     let a = operand(rt, alloc, words[0], first, bases)?;
     let b = operand(rt, alloc, words[1], second, bases)?;
-    put_of_two(alloc, name, a, b, bases, into)
+    put_applied(alloc, operator(name), two(alloc, a, b, bases)?, bases, into)
 }
 
 fn operand(
@@ -165,24 +165,6 @@ fn operand(
     fitting(rt, alloc, &mode, denoted(alloc, value)?, bases)
 }
 
-fn put_of_two(
-    alloc: Global,
-    name: &str,
-    a: Held,
-    b: Held,
-    bases: &Bases,
-    into: &mut Vec<u8>,
-) -> Result<(), AllocError>
-    requires first { IsHeldOver bases.now a }
-    requires second { IsHeldOver bases.now b }
-{
-    match name {
-        "image" => put_image(alloc, &a, &b, bases, into),
-        "images" => put_images(alloc, &a, &b, bases, into),
-        _ => put_applied(alloc, operator(name), two(alloc, a, b, bases)?, bases, into),
-    }
-}
-
 #[tactic(auto, using(crate::proofs::Walking::two_over))]
 fn two(alloc: Global, a: Held, b: Held, bases: &Bases) -> Result<Vec<Held>, AllocError>
     requires first { IsHeldOver bases.now a }
@@ -193,52 +175,6 @@ fn two(alloc: Global, a: Held, b: Held, bases: &Bases) -> Result<Vec<Held>, Allo
     list.push(a)?;
     list.push(b)?;
     Ok(list)
-}
-
-fn put_image(
-    alloc: Global,
-    f: &Held,
-    x: &Held,
-    bases: &Bases,
-    into: &mut Vec<u8>,
-) -> Result<(), AllocError>
-    requires { IsHeldOver bases.now f.now }
-{
-    let Held::Plain(x) = x else {
-        return Ok(());
-    };
-    match image(alloc, f, x, bases)? {
-        None => into.extend_from_slice(b"none"),
-        Some(y) => put_value(alloc, &y, into),
-    }
-}
-
-fn put_images(
-    alloc: Global,
-    f: &Held,
-    x: &Held,
-    bases: &Bases,
-    into: &mut Vec<u8>,
-) -> Result<(), AllocError>
-    requires { IsHeldOver bases.now f.now }
-{
-    let Held::Plain(x) = x else {
-        return Ok(());
-    };
-    let set = images(alloc, f, x, bases)?;
-    match set {
-        None => into.extend_from_slice(b"none"),
-        Some(_) => put_value(alloc, &set, into),
-    }
-}
-
-fn put_points(alloc: Global, f: &Held, bases: &Bases, into: &mut Vec<u8>) -> Result<(), AllocError>
-    requires { IsHeldOver bases.now f.now }
-{
-    match domain(alloc, f, bases)? {
-        None => into.extend_from_slice(b"none"),
-        Some(h) => put_form(alloc, &h, into),
-    }
 }
 
 // Adds the numbers of a set in the order of a walk.
@@ -314,8 +250,10 @@ fn operator(name: &str) -> Operator {
 fn other_operator(name: &str) -> Operator {
     match name {
         "less" => Operator::Less,
+        "lessf" => Operator::Lessf,
         "domain" => Operator::Domain,
         "range" => Operator::Range,
+        "images" => Operator::Images,
         _ => Operator::Get,
     }
 }
