@@ -15,5 +15,9 @@ use Rattle.setl_rep.specs.declared.applied.Applied.{Applied}
 abbrev pub IsGiven : BasesState → (a b : Held) → Option Applied → Operator → Type 0
 IsGiven bs a b result what = IfSome result (λ r. (left : ℕ) → op_of what (stands bs (form a) ∷ stands bs (form b) ∷ []) left ≡ Gives (held_value bs r.held) r.charged)
 
+-- the same of one operand
+abbrev pub IsGivenOne : BasesState → (s : Held) → Option Applied → Operator → Type 0
+IsGivenOne bs s result what = IfSome result (λ r. (left : ℕ) → op_of what (stands bs (form s) ∷ []) left ≡ Gives (held_value bs r.held) r.charged)
+
 pub gives : (bs : BasesState) (h : Held) (charged : ℕ) {d : Datum} {o : Outcome} → o ≡ value d → held_value bs h ≡ Some d → charged ≡ 0 → o ≡ Gives (held_value bs h) charged
 gives bs h charged is same free = is ∙ sym (ap (λ v. Gives v 0) same) ∙ sym (ap (λ n. Gives (held_value bs h) n) free)

@@ -6,3 +6,4 @@ pub mod ModeCodes
 pub mod ReadyHandles
 pub mod ReadyMaps
 pub mod ReadyPlain
+pub mod ByTable

@@ -1,5 +1,5 @@
 pub mod Standing
 pub mod Telling
-pub mod ByKernel
 pub mod ByTable
+pub mod ByKernel
 pub mod OwnForm

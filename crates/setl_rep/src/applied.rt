@@ -4,8 +4,8 @@ ghost use Rattle.std.specs.Prelude.{◌≡◌, true, length, map, IfOk, IsOk};
 ghost use Rattle.setl_value.specs.code.DatumOf.{part};
 ghost use Rattle.setl_operators_table.specs.Operators.{op_of, TakesOperands};
 ghost use Rattle.setl_rep_plain.specs.Standing.{held_value, IsHeldOver};
-ghost use Rattle.setl_rep.specs.ByKernel.{has_changed, has_kernel, is_combined, is_told, IsLikeFirst};
-ghost use Rattle.setl_rep.specs.ByTable.{has_table, IsByTable};
+ghost use Rattle.setl_rep.specs.ByKernel.{has_changed, has_kernel, is_combined, is_mapped, is_told, IsLikeFirst};
+ghost use Rattle.setl_rep.specs.ByTable.{has_less, IsByTable, IsLikeMap};
 ghost use Rattle.setl_rep.specs.Standing.{AreHeldOver};
 ghost use Rattle.setl_rep.specs.Telling.{TellsHeld};
 ghost use Rattle.setl_rep_forms.specs.FormOf.{form};
@@ -14,7 +14,7 @@ ghost use Rattle.setl_rep_forms.specs.Stands.{IsOver};
 
 use crate::by_change::with_or_less;
 use crate::by_kernel::by_kernel;
-use crate::by_table::{image_of, images_of, less_point, points};
+use crate::by_table::less_point;
 use setl_operators::{Answer, OpFault, Operator, op};
 use setl_rep_bases::Bases;
 use setl_rep_forms::Held;
@@ -39,9 +39,10 @@ pub struct Applied {
 /// the second is a member of its base, or, for `less`, any value that is held plain or as an element (`has_changed`): there
 /// the result is the set in its form, changed in place where nobody else holds it.
 ///
-/// Nor is one made of a map that is held as a table, at a point that is held plain or as an element (`has_table`): `domain f` is
-/// the set of the numbers of its points, `f(x)`, where it keeps one image for each point, and `f{x}`, where it keeps sets, are in
-/// the form in which the map has them, and `f lessf x` is the map in its form, changed in place where nobody else holds it.
+/// Nor is one made of a map that is held as a table, at a point that is held plain or as an element: `domain f` is the set of the
+/// numbers of its points, `f(x)`, where it keeps one image for each point, and `f{x}`, where it keeps sets, are in the form in
+/// which the map has them (`has_kernel`), and `f lessf x` is the map in its form, changed in place where nobody else holds it
+/// (`has_less`).
 ///
 /// The operands stand over the bases for values at most 500 deep, or for `om`, and are as many as the operator takes. What is
 /// held plain goes to `op` as it is.
@@ -58,21 +59,19 @@ pub fn apply(
     ensures over { IfOk result (λ a. IsOver bases.now (form a.held)) }
     ensures form { IfOk result (λ a. is_combined what ≡ true → has_kernel what (map form args.items) ≡ true → IsLikeFirst (map form args.items) (form a.held)) }
     ensures changed { IfOk result (λ a. has_changed bases.now what (map form args.items) ≡ true → IsLikeFirst (map form args.items) (form a.held)) }
-    ensures table { IfOk result (λ a. has_table what (map form args.items) ≡ true → IsByTable bases.now what (map form args.items) (form a.held)) }
+    ensures table { IfOk result (λ a. is_mapped what ≡ true → has_kernel what (map form args.items) ≡ true → IsByTable bases.now what (map form args.items) (form a.held)) }
+    ensures less { IfOk result (λ a. has_less what (map form args.items) ≡ true → IsLikeMap (map form args.items) (form a.held)) }
     ensures free { is_told what ≡ true → has_kernel what (map form args.items) ≡ true → IsOk result }
 {
     match what {
-        Operator::Domain => points(alloc, args, bases, turns),
-        Operator::Get => image_of(alloc, args, bases, turns),
-        Operator::Images => images_of(alloc, args, bases, turns),
-        Operator::Lessf => less_point(alloc, args, bases, turns),
         Operator::With => with_or_less(alloc, true, args, bases, turns),
         Operator::Less => with_or_less(alloc, false, args, bases, turns),
+        Operator::Lessf => less_point(alloc, args, bases, turns),
         _ => by_forms(alloc, what, args, bases, turns),
     }
 }
 
-// The same of all operators, but for what is said of changes and of maps.
+// The same of all operators, but for what is said of changes.
 fn by_forms(
     alloc: Global,
     what: Operator,
@@ -85,6 +84,7 @@ fn by_forms(
     ensures told { TellsHeld bases.now result (op_of what (map (held_value bases.now) args.items) turns) }
     ensures over { IfOk result (λ a. IsOver bases.now (form a.held)) }
     ensures form { IfOk result (λ a. is_combined what ≡ true → has_kernel what (map form args.items) ≡ true → IsLikeFirst (map form args.items) (form a.held)) }
+    ensures table { IfOk result (λ a. is_mapped what ≡ true → has_kernel what (map form args.items) ≡ true → IsByTable bases.now what (map form args.items) (form a.held)) }
     ensures free { is_told what ≡ true → has_kernel what (map form args.items) ≡ true → IsOk result }
 {
     if let Some(applied) = by_kernel(alloc, what, &args, bases)? {

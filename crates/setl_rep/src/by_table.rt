@@ -11,7 +11,7 @@ ghost use Rattle.setl_rep_images.specs.Kinds.{keeps_one, keeps_sets};
 ghost use Rattle.setl_rep_kernels.specs.Kernels.{is_single};
 ghost use Rattle.setl_rep_maps.specs.Contents.{table_of, IsDomain};
 ghost use Rattle.setl_rep_plain.specs.Standing.{held_value, IsHeldOver};
-ghost use Rattle.setl_rep.specs.ByTable.{has_point, has_set, is_table, HasDomain, HasImage, HasImages, IsImageOf, IsLikeMap, IsPointLess};
+ghost use Rattle.setl_rep.specs.ByTable.{has_point, IsImageOf, IsLessAt, IsLikeMap, IsPointLess};
 ghost use Rattle.setl_rep.specs.Standing.{AreHeldOver};
 ghost use Rattle.setl_rep.specs.Telling.{TellsHeld};
 
@@ -25,138 +25,69 @@ use setl_rep_maps::table_of;
 use setl_value::Value;
 use std::alloc::{AllocError, Global};
 
-// ---- `domain f`
+// ---- `domain f`, `f(x)` and `f{x}`
 
-/// What `domain` makes of its operand. It answers as `apply` does.
-pub(crate) fn points(
+/// The domain of a map in table form; None for others.
+pub(crate) fn points_of(
     alloc: Global,
-    args: Vec<Held>,
+    f: &Held,
     bases: &Bases,
-    turns: u64,
-) -> Result<Applied, OpFault>
-    requires count { length args.items ≡ 1 }
-    requires over { AreHeldOver bases.now args.items }
-    ensures told { TellsHeld bases.now result (op_of Domain (map (held_value bases.now) args.items) turns) }
-    ensures over { IfOk result (λ a. IsOver bases.now (form a.held)) }
-    ensures table { IfOk result (λ a. is_table (map form args.items) ≡ true → HasDomain (map form args.items) (form a.held)) }
+) -> Result<Option<Applied>, AllocError>
+    requires { IsOver bases.now (form f.now) }
+    ensures value { IfOk result (λ o. IfSome o (λ r. (left : ℕ) → op_of Domain (stands bases.now (form f.now) ∷ []) left ≡ Gives (held_value bases.now r.held) r.charged)) }
+    ensures over { IfOk result (λ o. IfSome o (λ r. IsOver bases.now (form r.held))) }
+    ensures form { IfOk result (λ o. IfSome o (λ r. IsDomain (form f.now) (form r.held))) }
+    ensures kernel { IfOk result (λ o. is_some o ≡ is_some (table_of (form f.now))) }
 {
-    if let Some(held) = points_of(alloc, &args, bases)? {
-        return Ok(Applied { held, charged: 0 });
-    }
-    by_values(alloc, Operator::Domain, args, bases, turns)
-}
-
-// The domain of a map in table form; None for others.
-fn points_of(alloc: Global, args: &[Held], bases: &Bases) -> Result<Option<Held>, AllocError>
-    requires { AreHeldOver bases.now args.now }
-    ensures value { IfOk result (λ o. IfSome o (λ h. (left : ℕ) → op_of Domain (map (held_value bases.now) args.now) left ≡ Gives (held_value bases.now h) 0)) }
-    ensures over { IfOk result (λ o. IfSome o (λ h. IsOver bases.now (form h))) }
-    ensures table { IfOk result (λ o. IfSome o (λ h. HasDomain (map form args.now) (form h))) }
-    ensures kernel { IfOk result (λ o. is_some o ≡ is_table (map form args.now)) }
-{
-    match args {
-        [f] => domain(alloc, f, bases),
-        _ => Ok(None),
+    match domain(alloc, f, bases)? {
+        None => Ok(None),
+        Some(held) => Ok(Some(Applied { held, charged: 0 })),
     }
 }
 
-// ---- `f(x)`
-
-/// What `f(x)` makes of its operands. It answers as `apply` does.
-pub(crate) fn image_of(
+/// The image of a point in a map in table form; None for others, and for points that are neither held plain nor as an element.
+pub(crate) fn image_at(
     alloc: Global,
-    args: Vec<Held>,
+    f: &Held,
+    x: &Held,
     bases: &Bases,
-    turns: u64,
-) -> Result<Applied, OpFault>
-    requires count { length args.items ≡ 2 }
-    requires over { AreHeldOver bases.now args.items }
-    ensures told { TellsHeld bases.now result (op_of Get (map (held_value bases.now) args.items) turns) }
-    ensures over { IfOk result (λ a. IsOver bases.now (form a.held)) }
-    ensures table { IfOk result (λ a. has_point (map form args.items) ≡ true → HasImage bases.now (map form args.items) (form a.held)) }
-{
-    if let Some(held) = image_in(alloc, &args, bases)? {
-        return Ok(Applied { held, charged: 0 });
-    }
-    by_values(alloc, Operator::Get, args, bases, turns)
-}
-
-// The image of a point in a map in table form; None for others.
-fn image_in(alloc: Global, args: &[Held], bases: &Bases) -> Result<Option<Held>, AllocError>
-    requires { AreHeldOver bases.now args.now }
-    ensures value { IfOk result (λ o. IfSome o (λ h. (left : ℕ) → op_of Get (map (held_value bases.now) args.now) left ≡ Gives (held_value bases.now h) 0)) }
-    ensures over { IfOk result (λ o. IfSome o (λ h. IsOver bases.now (form h))) }
-    ensures table { IfOk result (λ o. IfSome o (λ h. HasImage bases.now (map form args.now) (form h))) }
-    ensures kernel { IfOk result (λ o. is_some o ≡ has_point (map form args.now)) }
-{
-    match args {
-        [f, x] => image_at(alloc, f, x, bases),
-        _ => Ok(None),
-    }
-}
-
-// The same of the two operands.
-fn image_at(alloc: Global, f: &Held, x: &Held, bases: &Bases) -> Result<Option<Held>, AllocError>
+) -> Result<Option<Applied>, AllocError>
     requires map { IsHeldOver bases.now f.now }
     requires point { IsOver bases.now (form x.now) }
-    ensures value { IfOk result (λ o. IfSome o (λ h. (left : ℕ) → op_of Get (held_value bases.now f.now ∷ held_value bases.now x.now ∷ []) left ≡ Gives (held_value bases.now h) 0)) }
-    ensures over { IfOk result (λ o. IfSome o (λ h. IsOver bases.now (form h))) }
-    ensures form { IfOk result (λ o. IfSome o (λ h. keeps_one (form f.now) ≡ true → IsImageOf bases.now (form f.now) (form x.now) (form h))) }
+    ensures value { IfOk result (λ o. IfSome o (λ r. (left : ℕ) → op_of Get (stands bases.now (form f.now) ∷ stands bases.now (form x.now) ∷ []) left ≡ Gives (held_value bases.now r.held) r.charged)) }
+    ensures over { IfOk result (λ o. IfSome o (λ r. IsOver bases.now (form r.held))) }
+    ensures form { IfOk result (λ o. IfSome o (λ r. keeps_one (form f.now) ≡ true → IsImageOf bases.now (form f.now) (form x.now) (form r.held))) }
     ensures kernel { IfOk result (λ o. is_some o ≡ (is_single (form x.now) && is_some (table_of (form f.now)))) }
 {
-    match single(x, bases) {
+    let Some(v) = single(x, bases) else {
+        return Ok(None);
+    };
+    match image(alloc, f, v, bases)? {
         None => Ok(None),
-        Some(v) => image(alloc, f, v, bases),
+        Some(held) => Ok(Some(Applied { held, charged: 0 })),
     }
 }
 
-// ---- `f{x}`
-
-/// What `f{x}` makes of its operands. It answers as `apply` does.
-pub(crate) fn images_of(
+/// The set of the images of a point in a map in table form that keeps these as sets; None for others, and for points as above.
+pub(crate) fn images_at(
     alloc: Global,
-    args: Vec<Held>,
+    f: &Held,
+    x: &Held,
     bases: &Bases,
-    turns: u64,
-) -> Result<Applied, OpFault>
-    requires count { length args.items ≡ 2 }
-    requires over { AreHeldOver bases.now args.items }
-    ensures told { TellsHeld bases.now result (op_of Images (map (held_value bases.now) args.items) turns) }
-    ensures over { IfOk result (λ a. IsOver bases.now (form a.held)) }
-    ensures table { IfOk result (λ a. has_set (map form args.items) ≡ true → HasImages bases.now (map form args.items) (form a.held)) }
-{
-    if let Some(held) = images_in(alloc, &args, bases)? {
-        return Ok(Applied { held, charged: 0 });
-    }
-    by_values(alloc, Operator::Images, args, bases, turns)
-}
-
-// The images of a point in a map in table form that keeps them as sets; None for others.
-fn images_in(alloc: Global, args: &[Held], bases: &Bases) -> Result<Option<Held>, AllocError>
-    requires { AreHeldOver bases.now args.now }
-    ensures value { IfOk result (λ o. IfSome o (λ h. (left : ℕ) → op_of Images (map (held_value bases.now) args.now) left ≡ Gives (held_value bases.now h) 0)) }
-    ensures over { IfOk result (λ o. IfSome o (λ h. IsOver bases.now (form h))) }
-    ensures table { IfOk result (λ o. IfSome o (λ h. HasImages bases.now (map form args.now) (form h))) }
-    ensures kernel { IfOk result (λ o. is_some o ≡ has_set (map form args.now)) }
-{
-    match args {
-        [f, x] => images_at(alloc, f, x, bases),
-        _ => Ok(None),
-    }
-}
-
-// The same of the two operands.
-fn images_at(alloc: Global, f: &Held, x: &Held, bases: &Bases) -> Result<Option<Held>, AllocError>
+) -> Result<Option<Applied>, AllocError>
     requires map { IsHeldOver bases.now f.now }
     requires point { IsOver bases.now (form x.now) }
-    ensures value { IfOk result (λ o. IfSome o (λ h. (left : ℕ) → op_of Images (held_value bases.now f.now ∷ held_value bases.now x.now ∷ []) left ≡ Gives (held_value bases.now h) 0)) }
-    ensures over { IfOk result (λ o. IfSome o (λ h. IsOver bases.now (form h))) }
-    ensures form { IfOk result (λ o. IfSome o (λ h. IsImageOf bases.now (form f.now) (form x.now) (form h))) }
+    ensures value { IfOk result (λ o. IfSome o (λ r. (left : ℕ) → op_of Images (stands bases.now (form f.now) ∷ stands bases.now (form x.now) ∷ []) left ≡ Gives (held_value bases.now r.held) r.charged)) }
+    ensures over { IfOk result (λ o. IfSome o (λ r. IsOver bases.now (form r.held))) }
+    ensures form { IfOk result (λ o. IfSome o (λ r. IsImageOf bases.now (form f.now) (form x.now) (form r.held))) }
     ensures kernel { IfOk result (λ o. is_some o ≡ (is_single (form x.now) && keeps_sets (form f.now))) }
 {
-    match single(x, bases) {
+    let Some(v) = single(x, bases) else {
+        return Ok(None);
+    };
+    match images(alloc, f, v, bases)? {
         None => Ok(None),
-        Some(v) => images(alloc, f, v, bases),
+        Some(held) => Ok(Some(Applied { held, charged: 0 })),
     }
 }
 
@@ -197,12 +128,22 @@ fn without_point(f: Held, x: &Held, bases: &Bases) -> Result<Applied, AllocError
     requires map { IsHeldOver bases.now f }
     requires point { IsOver bases.now (form x.now) }
     requires table { (is_single (form x.now) && is_some (table_of (form f))) ≡ true }
-    ensures less { IfOk result (λ a. IsPointLess bases.now (form f) (form x.now) (form a.held)) }
+    ensures less { IfOk result (λ a. IsLessAt bases.now (form f) (form x.now) (form a.held)) }
     ensures charge { IfOk result (λ a. a.charged ≡ 0) }
 {
-    let v = single(x, bases).unwrap();
-    let held = without(f, v, bases)?;
+    let held = without_at(f, x, bases)?;
     Ok(Applied { held, charged: 0 })
+}
+
+// The same for the value of the point.
+fn without_at(f: Held, x: &Held, bases: &Bases) -> Result<Held, AllocError>
+    requires map { IsHeldOver bases.now f }
+    requires point { IsOver bases.now (form x.now) }
+    requires table { (is_single (form x.now) && is_some (table_of (form f))) ≡ true }
+    ensures { IfOk result (λ g. IsPointLess bases.now (form f) (form x.now) (form g)) }
+{
+    let v = single(x, bases).unwrap();
+    without(f, v, bases)
 }
 
 // ---- what is held plain or as an element

@@ -29,12 +29,7 @@ use std::alloc::{AllocError, Global};
 ///
 /// A map that keeps one image for each point gives it in the form in which it has it, and no plain value is made. An error is
 /// want of memory. For such a map the cost is near linear in the size of `x` alone, for others in that of its images too.
-pub fn image(
-    alloc: Global,
-    f: &Held,
-    x: &Value,
-    bases: &Bases,
-) -> Result<Option<Held>, AllocError>
+pub fn image(alloc: Global, f: &Held, x: &Value, bases: &Bases) -> Result<Option<Held>, AllocError>
     requires { IsHeldOver bases.now f.now }
     ensures value { IfOk result (λ o. IfSome o (λ h. (left : ℕ) → op_of Get (held_value bases.now f.now ∷ Some (datum x.now) ∷ []) left ≡ Gives (held_value bases.now h) 0)) }
     ensures over { IfOk result (λ o. IfSome o (λ h. IsOver bases.now (form h))) }
@@ -55,12 +50,7 @@ pub fn image(
 ///
 /// The set is given in the form in which the map has it, and no plain set is made of it. An error is want of memory. The cost
 /// is near linear in the size of `x`.
-pub fn images(
-    alloc: Global,
-    f: &Held,
-    x: &Value,
-    bases: &Bases,
-) -> Result<Option<Held>, AllocError>
+pub fn images(alloc: Global, f: &Held, x: &Value, bases: &Bases) -> Result<Option<Held>, AllocError>
     requires { IsHeldOver bases.now f.now }
     ensures value { IfOk result (λ o. IfSome o (λ h. (left : ℕ) → op_of Images (held_value bases.now f.now ∷ Some (datum x.now) ∷ []) left ≡ Gives (held_value bases.now h) 0)) }
     ensures over { IfOk result (λ o. IfSome o (λ h. IsOver bases.now (form h))) }

@@ -1,15 +1,10 @@
-use Rattle.std.proofs.Common.{◌∙◌, ◌∷◌, [], Some, ap}
-use Rattle.std.proofs.lemmas.Int.{to_z-of_z}
-use Rattle.std.specs.Int.{w128}
-use Rattle.setl_value.specs.Datum.{int}
-use Rattle.setl_operators_table.specs.Operators.{op_of}
-use Rattle.setl_rep_forms.specs.FormOf.{form}
-use Rattle.setl_rep_forms.specs.Stands.{stands}
-use Rattle.setl_rep.proofs.ByKernel.{gives}
+use Rattle.std.proofs.Common.{IfOk, sym, subst}
+use Rattle.setl_rep.proofs.ByKernel.{IsGivenOne}
 use Rattle.setl_rep.proofs.by_kernel.of_one.Goals as goal
 
-pub returns-in-Some-clause-value : goal.returns-in-Some-clause-value
-returns-in-Some-clause-value c =
-    let count = c.free.ensures.value c.args.bases.now ∙ ap (λ z. Some (int z)) (to_z-of_z w128 c.from.result (record { sfits = c.from.type_inv }) ∙ c.from.ensures) in
-    λ left. ap (λ what. op_of what (stands c.args.bases.now (form c.args.s.now) ∷ []) left) c.in-Size.is
-    ∙ gives c.args.bases.now c.free.result.held c.free.result.charged (c.in-Some.ensures.value left) count c.free.ensures.charge
+pub returns-in-Size-clause-value : goal.returns-in-Size-clause-value
+returns-in-Size-clause-value c = subst (IsGivenOne c.args.bases.now c.args.s.now c.size_of.result) (sym c.in-Size.is) c.size_of.ensures.value
+
+pub returns-in-Domain-clause-value : goal.returns-in-Domain-clause-value
+returns-in-Domain-clause-value c =
+    subst (λ what. IfOk c.points_of.result (λ o. IsGivenOne c.args.bases.now c.args.s.now o what)) (sym c.in-Domain.is) c.points_of.ensures.value

@@ -23,3 +23,11 @@ returns-in-Multiply-clause-value c =
 pub returns-in-Modulo-clause-value : goal.returns-in-Modulo-clause-value
 returns-in-Modulo-clause-value c =
     subst (λ what. IfOk c.of_sets-in-Modulo.result (λ o. IsGiven c.args.bases.now c.args.a.now c.args.b.now o what)) (sym c.in-Modulo.is) c.of_sets-in-Modulo.ensures.value
+
+pub returns-in-Get-clause-value : goal.returns-in-Get-clause-value
+returns-in-Get-clause-value c =
+    subst (λ what. IfOk c.image_at.result (λ o. IsGiven c.args.bases.now c.args.a.now c.args.b.now o what)) (sym c.in-Get.is) c.image_at.ensures.value
+
+pub returns-in-Images-clause-value : goal.returns-in-Images-clause-value
+returns-in-Images-clause-value c =
+    subst (λ what. IfOk c.images_at.result (λ o. IsGiven c.args.bases.now c.args.a.now c.args.b.now o what)) (sym c.in-Images.is) c.images_at.ensures.value

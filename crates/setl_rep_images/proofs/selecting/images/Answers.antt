@@ -17,4 +17,4 @@ returns-in_ok-copy-in-Some-point_content-clause-value c =
     λ left.
     selects_content c.args.bases.now (form c.args.f.now) c.in-Some.b c.in-Some.many (sym c.table_of.ensures ∙ c.in-Some.is) (datum c.args.x.now)
     (held_value c.args.bases.now c.in-Some-point_content.c.now) c.if-not-many.false c.in-Some-point_content.ensures.content c.in-Some-point_content.ensures.images left
-    ∙ ap (λ g. Gives (stands c.args.bases.now g) 0) (sym c.in_ok-copy-in-Some-point_content.ensures)
+    ∙ ap (λ g. Gives (stands c.args.bases.now g) 0) (sym c.in_ok-copy-in-Some-point_content.ensures.same)
