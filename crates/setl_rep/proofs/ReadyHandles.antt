@@ -1,5 +1,5 @@
 -- Elements and tuples that are held in the form of a mode already.
-use Rattle.std.proofs.Common.{◌≡◌, ◌∙◌, ℕ, zero, suc, ◌≤◌, length, drop, arith, Bool, true, false, ◌||◌, ◌==◌, inl, inr, cond, List, [], ◌∷◌, ◌++◌, Option, None, Some, IsSome, refl, sym, ap, subst, eqb-true}
+use Rattle.std.proofs.Common.{◌≡◌, ◌∙◌, ℕ, Bool, true, false, ◌||◌, ◌==◌, inl, inr, cond, List, [], ◌∷◌, ◌++◌, Option, None, Some, IsSome, refl, sym, ap, subst, eqb-true}
 use Rattle.std.specs.List.{flat_map, list_all}
 use Rattle.std.specs.Ordering.{is_eq}
 use Rattle.std.proofs.lemmas.Bool.{false≢true, or_cases}
@@ -55,24 +55,28 @@ module _ (bs : BasesState) (n : ℕ) (c : ℕ) (k : Mode) (b : BaseId) (base : I
 
   -- ---- a tuple
 
-  in_parts : (es : List (Option Elt)) (i : ℕ) (x : Datum) → has_datum x (flat_map (at_part (elements_at i (Elements c k))) (parts_at (base_at bs b) es)) ≡ true → IsSome (find (base_at bs (named bs n i)) x)
+  abbrev places : (es : List (Option Elt)) (i : ℕ) → List Datum
+  places es i = flat_map (at_part (elements_at i (Elements c k))) (parts_at (base_at bs b) es)
+
+  in_part : (es : List (Option Elt)) (i : ℕ) (x : Datum) (e : Elt) → (has_datum x (places es i) ≡ true → IsSome (find (base_at bs (named bs n i)) x))
+      → has_datum x (at_part (elements_at i (Elements c k)) (value_of (base_at bs b) e) ++ places es i) ≡ true → IsSome (find (base_at bs (named bs n i)) x)
+  in_part es i x e later h = by (value_of (base_at bs b) e) refl h
+    where
+      there : (d : Datum) → value_of (base_at bs b) e ≡ Some d → (t : Bool) → (c == i) ≡ t → has_datum x (cond t (d ∷ []) [] ++ places es i) ≡ true → IsSome (find (base_at bs (named bs n i)) x)
+      there d q true same h = elim (or_cases (is_eq (datum_cmp x d)) (has_datum x (places es i)) h) [
+        | inl f ↦ at_base i x same (is_found (base_at bs b) e x d base q (same_if_eq x d f))
+        | inr f ↦ later f
+      ]
+      there d q false same h = later h
+
+      by : (o : Option Datum) → value_of (base_at bs b) e ≡ o → has_datum x (at_part (elements_at i (Elements c k)) o ++ places es i) ≡ true → IsSome (find (base_at bs (named bs n i)) x)
+      by None q h = later h
+      by (Some d) q h = there d q (c == i) refl h
+
+  in_parts : (es : List (Option Elt)) (i : ℕ) (x : Datum) → has_datum x (places es i) ≡ true → IsSome (find (base_at bs (named bs n i)) x)
   in_parts [] i x h = absurd (false≢true h)
   in_parts (None ∷ es) i x h = in_parts es i x h
-  in_parts (Some e ∷ es) i x h = by (value_of (base_at bs b) e) refl h
-    where
-      abbrev rest : List Datum
-      rest = flat_map (at_part (elements_at i (Elements c k))) (parts_at (base_at bs b) es)
-
-      there : (d : Datum) → value_of (base_at bs b) e ≡ Some d → (t : Bool) → (c == i) ≡ t → has_datum x (cond t (d ∷ []) [] ++ rest) ≡ true → IsSome (find (base_at bs (named bs n i)) x)
-      there d q true same h = elim (or_cases (is_eq (datum_cmp x d)) (has_datum x rest) h) [
-        | inl f ↦ at_base i x same (is_found (base_at bs b) e x d base q (same_if_eq x d f))
-        | inr f ↦ in_parts es i x f
-      ]
-      there d q false same h = in_parts es i x h
-
-      by : (o : Option Datum) → value_of (base_at bs b) e ≡ o → has_datum x (at_part (elements_at i (Elements c k)) o ++ rest) ≡ true → IsSome (find (base_at bs (named bs n i)) x)
-      by None q h = in_parts es i x h
-      by (Some d) q h = there d q (c == i) refl h
+  in_parts (Some e ∷ es) i x h = in_part es i x e (in_parts es i x) h
 
   pub ready_tuple : (m : Mode) (es : List (Option Elt)) → m ≡ Tuples (Elements c k) → list_all (part_fits (datum_fits k)) (parts_at (base_at bs b) es) ≡ true → IsReady bs n m (handles b es)
   ready_tuple m es is fit = subst (λ z. IsReady bs n z (handles b es)) (sym is) (record {
@@ -82,15 +86,3 @@ module _ (bs : BasesState) (n : ℕ) (c : ℕ) (k : Mode) (b : BaseId) (base : I
     fits = ap (list_all (part_fits (datum_fits k))) (part_list-parts_of (parts_at (base_at bs b) es)) ∙ fit;
     found = λ i x h. in_parts es i x (sym (ap (λ ps. has_datum x (flat_map (at_part (elements_at i (Elements c k))) ps)) (part_list-parts_of (parts_at (base_at bs b) es))) ∙ h);
   })
-
--- ---- the handles of a list, one after the other
-
-drop_past : {X : Type 0} (xs : List X) (n : ℕ) → length xs ≤ n → drop n xs ≡ []
-drop_past [] zero h = refl
-drop_past [] (suc n) h = refl
-drop_past (x ∷ xs) zero h = absurd (omega arith)
-drop_past (x ∷ xs) (suc n) h = drop_past xs n (omega arith)
-
--- behind the end of a list, no component fails
-pub none_left : (p : Option Datum → Bool) (b : BaseState) (es : List (Option Elt)) (i : ℕ) → length es ≤ i → list_all p (parts_at b (drop i es)) ≡ true
-none_left p b es i h = ap (λ l. list_all p (parts_at b l)) (drop_past es i h)

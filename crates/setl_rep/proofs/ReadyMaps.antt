@@ -1,6 +1,8 @@
 -- Maps that are held in the form of a mode already.
-use Rattle.std.proofs.Common.{◌≡◌, ◌∙◌, ℕ, Bool, true, false, ◌&&◌, ◌||◌, ◌==◌, ◌⊎◌, inl, inr, cond, List, [], ◌∷◌, ◌++◌, length, Option, None, Some, IsSome, refl, sym, ap, subst, eqb-true, eq-eqb}
-use Rattle.std.specs.List.{flat_map, list_all}
+use Rattle.std.proofs.Common.{◌≡◌, ◌∙◌, ℕ, zero, suc, ◌+◌, ◌≤◌, drop, arith, Bool, true, false, ◌&&◌, ◌||◌, ◌==◌, nat_eq, is_some, inl, inr, cond, List, [], ◌∷◌, ◌++◌, length, Option, None, Some, IsSome, refl, sym, ap, subst, eqb-true, eq-eqb}
+use Rattle.std.specs.FinSet as set
+use Rattle.std.specs.FinSet.{contains-from_list_nat}
+use Rattle.std.specs.List.{flat_map, list_all, list_any, AllByRecursion}
 use Rattle.std.specs.List.Sorted.{IsStrictlySortedBy}
 use Rattle.std.specs.Option.{option_and_then, option_map}
 use Rattle.std.specs.Ordering.{is_eq}
@@ -20,12 +22,13 @@ use Rattle.setl_base.specs.declared.Elt.{Elt}
 use Rattle.setl_base.specs.Base.{BaseState, Member, IsBase, find, handle, member_at, value_in, value_of}
 use Rattle.setl_rep_bases.specs.declared.BaseId.{BaseId}
 use Rattle.setl_rep_bases.specs.Bases.{BasesState, base_at, named}
-use Rattle.setl_rep_forms.specs.Form.{Form, Layout, Entries, no_entry, entry_then, table}
-use Rattle.setl_rep_forms.specs.Stands.{value_at, stands, AreOver, IsContent}
+use Rattle.setl_rep_forms.specs.Form.{Form, Layout, Entries, no_entry, entry_then, om, plain, element, numbers, table, handles}
+use Rattle.setl_rep_forms.specs.Stands.{value_at, stands, AreOver, IsContent, IsOver}
+use Rattle.setl_rep_maps.specs.Contents.{content_of, IsDomain, IsKeyedForm}
 use Rattle.setl_rep_tables.specs.Tables.{content_in, images_of, table_pairs, IsKeyed, MembersOfTables, AllImagesOfTables}
 use Rattle.setl_rep_building.specs.HasForm.{layout_of, placed, HasForm, HaveForms, IsMapForm}
 use Rattle.setl_rep_entering.specs.Laws.{PlacesAreFound}
-use Rattle.setl_rep.specs.OwnForm.{map_mode, IsReady}
+use Rattle.setl_rep.specs.OwnForm.{map_mode, HasNumbers, IsContentReady, IsEntryReady, IsReady, IsTableAt}
 
 -- ---- lists
 
@@ -173,7 +176,7 @@ module _ (bs : BasesState) (n : ℕ) (c : ℕ) (k r : Mode) (b : BaseId) (name :
     of_multi forms = subst (λ o. IsMapForm (named bs n) (placed o (Elements c k)) true (HasForm (named bs n) r) (table l b true es)) (sym lies) (refl, sym name, refl, forms)
 
   module _ (tests : TestsMembership) (members : MembersOfTables) (all : AllImagesOfTables) (base : IsBase (base_at bs b)) (es : Entries) (keyed : IsKeyed es)
-    (ready : (q : ℕ) (f : Form) → content_in es q ≡ Some f → (part_fits (datum_fits k) (value_at (base_at bs b) q) ≡ true) × IsReady bs n r f) where
+      (ready : (q : ℕ) (f : Form) → content_in es q ≡ Some f → (part_fits (datum_fits k) (value_at (base_at bs b) q) ≡ true) × IsReady bs n r f) where
     fit : (many : Bool) → AreOver bs (base_at bs b) many es → (p : Datum) → has_datum p (table_pairs bs (base_at bs b) many es) ≡ true
         → IsFit bs n (base_at bs b) k r many (table_pairs bs (base_at bs b) many es) p
     fit many over p h =
@@ -236,3 +239,85 @@ module _ (bs : BasesState) (n : ℕ) (c : ℕ) (k r : Mode) (b : BaseId) (name :
     pub ready_table : (many : Bool) (a : Attribute) (l : Layout) → layout_of a ≡ Some l → AreOver bs (base_at bs b) many es → IsReady bs n (map_mode many a (Elements c k) r) (table l b many es)
     ready_table false a l lies over = single_ready a l lies over
     ready_table true a l lies over = multi_ready a l lies over
+
+-- ---- a map whose listed numbers are all that have a content
+
+at_member : (P : ℕ → Type 0) (list : List ℕ) (q : ℕ) → AllByRecursion P list → list_any (λ y. nat_eq y q) list ≡ true → P q
+at_member P [] q a h = absurd (false≢true h)
+at_member P (y ∷ ys) q a h = elim (or_cases (nat_eq y q) (list_any (λ z. nat_eq z q) ys) h) [ inl e ↦ subst P (eqb-true y q e) a.0 | inr e ↦ at_member P ys q a.1 e ]
+
+pub ready_map : TestsMembership → MembersOfTables → AllImagesOfTables
+    → (bs : BasesState) (n c : ℕ) (k r m : Mode) (a : Attribute) (b : BaseId) (many : Bool) (f : Form) (base : BaseState) (list : List ℕ)
+    → m ≡ map_mode many a (Elements c k) r → named bs n c ≡ b → IsTableAt (layout_of a) b many f → IsOver bs f → IsKeyedForm f → IsBase (base_at bs b) → base ≡ base_at bs b
+    → ((q : ℕ) → is_some (content_of f q) ≡ true → list_any (λ y. nat_eq y q) list ≡ true)
+    → AllByRecursion (IsEntryReady bs n base k r f) list → IsReady bs n m f
+ready_map tests members all bs n c k r m a b many f base list is name at over keyed basis same covers ready = by (layout_of a) refl f at over keyed covers ready
+  where
+    by : (o : Option Layout) → layout_of a ≡ o → (f : Form) → IsTableAt o b many f → IsOver bs f → IsKeyedForm f
+        → ((q : ℕ) → is_some (content_of f q) ≡ true → list_any (λ y. nat_eq y q) list ≡ true) → AllByRecursion (IsEntryReady bs n base k r f) list → IsReady bs n m f
+    by (Some l) lies (table j e some es) t over keyed covers ready =
+        let path : ◌≡◌ {A = Form} (table j e some es) (table l b many es) = ap (λ i. table i e some es) t.0 ∙ ap (λ i. table l i some es) t.1 ∙ ap (λ s. table l b s es) t.2 in
+        let over_then : IsOver bs (table l b many es) = subst (IsOver bs) path over in
+        let entries : (q : ℕ) (g : Form) → content_in es q ≡ Some g → (part_fits (datum_fits k) (value_at (base_at bs b) q) ≡ true) × IsReady bs n r g =
+        (λ q g there.
+        subst (λ i. (part_fits (datum_fits k) (value_at i q) ≡ true) × IsReady bs n r g) same
+        (subst (IsContentReady bs n base k r q) there (at_member (IsEntryReady bs n base k r (table j e some es)) list q ready (covers q (ap is_some there)))))
+        in
+        subst (λ g. IsReady bs n m g) (sym path) (subst (λ z. IsReady bs n z (table l b many es)) (sym is) (ready_table bs n c k r b name tests members all basis es keyed entries many a l lies over_then.1))
+    by None lies f t over keyed covers ready = absurd t
+    by (Some l) lies om t over keyed covers ready = absurd t
+    by (Some l) lies (plain v) t over keyed covers ready = absurd t
+    by (Some l) lies (element e v) t over keyed covers ready = absurd t
+    by (Some l) lies (numbers j e ns) t over keyed covers ready = absurd t
+    by (Some l) lies (handles e hs) t over keyed covers ready = absurd t
+
+-- ---- the numbers of a list, one after the other
+
+pub all_left : (P : ℕ → Type 0) (list : List ℕ) (i : ℕ) → length list ≤ i → AllByRecursion P (drop i list)
+all_left P [] zero h = tt
+all_left P [] (suc i) h = tt
+all_left P (x ∷ xs) zero h = absurd (omega arith)
+all_left P (x ∷ xs) (suc i) h = all_left P xs i (omega arith)
+
+pub covers : (f g : Form) (ns : List ℕ) → IsDomain f g → HasNumbers g ns → (q : ℕ) → is_some (content_of f q) ≡ true → list_any (λ y. nat_eq y q) ns ≡ true
+covers (table k b many es) (numbers l d ms) ns points has q there = sym (contains-from_list_nat ns q) ∙ ap (λ s. set.contains s q) has ∙ points.2 q ∙ there
+covers (table k b many es) om ns points has q there = absurd points
+covers (table k b many es) (plain v) ns points has q there = absurd points
+covers (table k b many es) (element c v) ns points has q there = absurd points
+covers (table k b many es) (table l c some fs) ns points has q there = absurd points
+covers (table k b many es) (handles c hs) ns points has q there = absurd points
+covers om g ns points has q there = absurd points
+covers (plain v) g ns points has q there = absurd points
+covers (element c v) g ns points has q there = absurd points
+covers (numbers l c ms) g ns points has q there = absurd points
+covers (handles c hs) g ns points has q there = absurd points
+
+-- ---- what a content stands over
+
+entry_over : (bs : BasesState) (b : BaseState) (many : Bool) (es : Entries) (n : ℕ) (c : Form) → AreOver bs b many es → content_in es n ≡ Some c → IsOver bs c
+entry_over bs b many no_entry n c o h = absurd (not_both h)
+entry_over bs b many (entry_then k f es) n c o h = by (n == k) h (entry_over bs b many es n c o.3)
+  where
+    by : (t : Bool) → cond t (Some f) (content_in es n) ≡ Some c → (content_in es n ≡ Some c → IsOver bs c) → IsOver bs c
+    by true q rest = subst (IsOver bs) (some_same q) o.1
+    by false q rest = rest q
+
+pub content_over : (bs : BasesState) (f : Form) (n : ℕ) (c : Form) → IsOver bs f → content_of f n ≡ Some c → IsOver bs c
+content_over bs (table k b many es) n c o h = entry_over bs (base_at bs b) many es n c o.1 h
+content_over bs om n c o h = absurd (not_both h)
+content_over bs (plain v) n c o h = absurd (not_both h)
+content_over bs (element b v) n c o h = absurd (not_both h)
+content_over bs (numbers l b ns) n c o h = absurd (not_both h)
+content_over bs (handles b hs) n c o h = absurd (not_both h)
+
+-- ---- the measure of the walk
+
+-- how many modes of maps stand in one another
+abbrev pub height : Mode → ℕ
+height (SingleMaps a d r) = height r + 1
+height (MultiMaps a d s) = height s + 1
+height m = 0
+
+pub height_of : (many : Bool) (a : Attribute) (d r : Mode) → height (map_mode many a d r) ≡ height r + 1
+height_of false a d r = refl
+height_of true a d r = refl

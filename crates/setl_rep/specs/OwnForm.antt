@@ -1,5 +1,6 @@
 -- A value that is held in the form of a mode already.
-use Rattle.std.specs.Prelude.{◌≡◌, ℕ, Bool, true, false, Option, Some, None}
+use Rattle.std.specs.Prelude.{◌≡◌, ℕ, Bool, true, false, List, Option, Some, None}
+use Rattle.std.specs.FinSet as set
 use Rattle.setl_value.specs.Datum.{Datum}
 use Rattle.setl_modes.specs.declared.mode.Form.{Form as Attribute}
 use Rattle.setl_modes.specs.Fits.{datum_fits, part_fits}
@@ -7,7 +8,7 @@ use Rattle.setl_modes.specs.Modes.{Mode, General, Integers, Strings, Booleans, A
 use Rattle.setl_base.specs.Base.{BaseState}
 use Rattle.setl_rep_bases.specs.declared.BaseId.{BaseId}
 use Rattle.setl_rep_bases.specs.Bases.{BasesState, named}
-use Rattle.setl_rep_forms.specs.Form.{Form, Layout, table}
+use Rattle.setl_rep_forms.specs.Form.{Form, Layout, numbers, table}
 use Rattle.setl_rep_forms.specs.Stands.{value_at, stands}
 use Rattle.setl_rep_maps.specs.Contents.{content_of}
 use Rattle.setl_rep_building.specs.HasForm.{HasForm}
@@ -51,3 +52,8 @@ IsContentReady bs n b k r q (Some c) = (part_fits (datum_fits k) (value_at b q) 
 -- the same of the content that a map has at this number
 abbrev pub IsEntryReady : BasesState → (n : ℕ) → BaseState → (k r : Mode) → Form → ℕ → Type 0
 IsEntryReady bs n b k r f q = IsContentReady bs n b k r q (content_of f q)
+
+-- these are the numbers of a set
+abbrev pub HasNumbers : Form → List ℕ → Type 0
+HasNumbers (numbers k b ms) ns = set.from_list ns ≡ ms
+HasNumbers f ns = Unit {0}

@@ -9,7 +9,7 @@ ghost use Rattle.setl_rep_forms.specs.FormOf.{form};
 ghost use Rattle.setl_rep_forms.specs.Stands.{IsOver};
 ghost use Rattle.setl_rep_building.specs.HasForm.{layout_of};
 ghost use Rattle.setl_rep_maps.specs.Contents.{content_of};
-ghost use Rattle.setl_rep.specs.OwnForm.{map_mode, IsEntryReady, IsReady, IsTableAt};
+ghost use Rattle.setl_rep.specs.OwnForm.{map_mode, HasNumbers, IsEntryReady, IsReady, IsTableAt};
 
 use crate::own_form::{element, is_ready, member_fits};
 use setl_base::Base;
@@ -44,7 +44,16 @@ pub(crate) fn is_map_ready(
         return Ok(false);
     }
     let list = points(alloc, f, bases)?;
-    all_entries_ready(alloc, k, r, f, bases.at(b), list.as_slice(), bases, instance)
+    all_entries_ready(
+        alloc,
+        k,
+        r,
+        f,
+        bases.at(b),
+        list.as_slice(),
+        bases,
+        instance,
+    )
 }
 
 // Whether the contents that a map has at these numbers, and their points, are in the form of the mode of a map. The base has the
@@ -130,9 +139,19 @@ fn points(alloc: Global, f: &Held, bases: &Bases) -> Result<Vec<u64>, AllocError
     requires { IsOver bases.now (form f.now) }
     ensures { IfOk result (λ ns. (q : ℕ) → is_some (content_of (form f.now) q) ≡ true → list_any (λ y. nat_eq y q) ns.items ≡ true) }
 {
-    match domain(alloc, f, bases)? {
-        Some(Held::Remote(_, bits)) => bits.numbers(alloc),
-        Some(Held::Sparse(_, table)) => table.numbers(alloc),
+    let Some(g) = domain(alloc, f, bases)? else {
+        return Ok(Vec::new(alloc));
+    };
+    numbers_of(alloc, &g)
+}
+
+// The numbers of a set, and none for other forms.
+fn numbers_of(alloc: Global, g: &Held) -> Result<Vec<u64>, AllocError>
+    ensures { IfOk result (λ ns. HasNumbers (form g.now) ns.items) }
+{
+    match g {
+        Held::Remote(_, bits) => bits.numbers(alloc),
+        Held::Sparse(_, table) => table.numbers(alloc),
         _ => Ok(Vec::new(alloc)),
     }
 }
