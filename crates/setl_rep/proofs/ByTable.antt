@@ -8,7 +8,6 @@ use Rattle.setl_operators_table.specs.Operators.{op_of}
 use Rattle.setl_rep_bases.specs.Bases.{BasesState, base_at}
 use Rattle.setl_rep_forms.specs.Form.{Form, om, plain, element, numbers, table, handles}
 use Rattle.setl_rep_forms.specs.Stands.{stands, IsOver}
-use Rattle.setl_rep_images.specs.Without.{IsWithoutPoint}
 use Rattle.setl_rep_kernels.specs.Kernels.{is_single}
 use Rattle.setl_rep.specs.ByTable.{IsLessAt, IsPointLess}
 

@@ -1,28 +1,28 @@
 -- Sets that are held in the form of a mode already.
-use Rattle.std.proofs.Common.{◌≡◌, ◌∙◌, ℕ, zero, suc, ◌≤◌, length, drop, arith, Bool, true, false, ◌&&◌, ◌||◌, ◌==◌, ◌⊎◌, inl, inr, cond, List, [], ◌∷◌, ◌++◌, Option, None, Some, IsSome, refl, sym, ap, subst, eqb-true}
+use Rattle.std.proofs.Common.{◌≡◌, ◌∙◌, ℕ, zero, suc, ◌≤◌, length, drop, arith, Bool, true, false, ◌&&◌, ◌||◌, ◌==◌, inr, cond, List, [], ◌∷◌, ◌++◌, Option, None, Some, IsSome, refl, sym, ap, subst, eqb-true}
 use Rattle.std.specs.Bool.{if◌then◌else◌}
-use Rattle.std.specs.List.{flat_map, filter_map, list_all, cons_option}
+use Rattle.std.specs.List.{flat_map, filter_map, list_all}
 use Rattle.std.specs.Option.{option_map}
 use Rattle.std.specs.Ordering.{nat_cmp, is_eq}
 use Rattle.std.specs.declared.cmp.Ordering.{Ordering}
 use Rattle.std.specs.declared.cmp.Ordering.TheVariants.{Less, Equal, Greater}
 use Rattle.std.specs.FinSet as set
-use Rattle.std.proofs.lemmas.Bool.{false≢true, and_parts, and_from, or_cases}
-use Rattle.setl_value.specs.Datum.{Datum, bool, set_of, elements_of, element_list-elements_of}
+use Rattle.std.proofs.lemmas.Bool.{false≢true, and_parts, and_from}
+use Rattle.setl_value.specs.Datum.{Datum, bool, set_of, element_list-elements_of}
 use Rattle.setl_value.specs.Order.{datum_cmp}
 use Rattle.setl_set.specs.Sets.{has_datum, insert_datum, insert_by, set_from}
 use Rattle.setl_modes.specs.declared.mode.Form.{Form as Attribute}
-use Rattle.setl_modes.specs.Fits.{datum_fits, part_fits}
+use Rattle.setl_modes.specs.Fits.{datum_fits}
 use Rattle.setl_modes.specs.Modes.{Mode, General, Elements, Sets}
 use Rattle.setl_modes_places.specs.Places.{elements_at}
 use Rattle.setl_base.specs.Base.{BaseState, IsBase, find}
 use Rattle.setl_rep_bases.specs.declared.BaseId.{BaseId}
 use Rattle.setl_rep_bases.specs.declared.tables.Instance.{Instance}
 use Rattle.setl_rep_bases.specs.Bases.{BasesState, base_at, instance_at, named}
-use Rattle.setl_rep_forms.specs.Form.{Form, Layout, numbers}
+use Rattle.setl_rep_forms.specs.Form.{Layout, numbers}
 use Rattle.setl_rep_forms.specs.Laws.{MembersAreTestedByNumber, MembersOfLists}
 use Rattle.setl_rep_forms.specs.Stands.{members_at, value_at}
-use Rattle.setl_rep_building.specs.HasForm.{layout_of, placed, HasForm, IsSetForm}
+use Rattle.setl_rep_building.specs.HasForm.{layout_of, placed, IsSetForm}
 use Rattle.setl_rep_entering.specs.Entering.{AreLengthened, is_named, places_in, with_values, lengthened_by}
 use Rattle.setl_rep_entering.specs.Laws.{PlacesAreFound, PartsLengthenAlike}
 use Rattle.setl_rep.specs.OwnForm.{IsReady}

@@ -1,5 +1,5 @@
 -- Elements and tuples that are held in the form of a mode already.
-use Rattle.std.proofs.Common.{◌≡◌, ◌∙◌, ℕ, Bool, true, false, ◌||◌, ◌==◌, inl, inr, cond, List, [], ◌∷◌, ◌++◌, Option, None, Some, IsSome, refl, sym, ap, subst, eqb-true}
+use Rattle.std.proofs.Common.{◌≡◌, ◌∙◌, ℕ, Bool, true, false, ◌==◌, inl, inr, cond, List, [], ◌∷◌, ◌++◌, Option, None, Some, IsSome, refl, sym, ap, subst, eqb-true}
 use Rattle.std.specs.List.{flat_map, list_all}
 use Rattle.std.specs.Ordering.{is_eq}
 use Rattle.std.proofs.lemmas.Bool.{false≢true, or_cases}
@@ -14,8 +14,8 @@ use Rattle.setl_base.specs.declared.Elt.{Elt}
 use Rattle.setl_base.specs.Base.{BaseState, IsBase, find, value_of}
 use Rattle.setl_rep_bases.specs.declared.BaseId.{BaseId}
 use Rattle.setl_rep_bases.specs.Bases.{BasesState, base_at, named}
-use Rattle.setl_rep_forms.specs.Form.{Form, element, handles}
-use Rattle.setl_rep_forms.specs.Stands.{parts_at, AreHandles}
+use Rattle.setl_rep_forms.specs.Form.{element, handles}
+use Rattle.setl_rep_forms.specs.Stands.{parts_at}
 use Rattle.setl_rep_entering.specs.Laws.{PlacesAreFound}
 use Rattle.setl_rep.specs.OwnForm.{IsReady}
 

@@ -18,7 +18,6 @@ use Rattle.setl_modes.specs.declared.mode.Form.{Form as Attribute}
 use Rattle.setl_modes.specs.Fits.{datum_fits, part_fits, single_fits, multi_fits}
 use Rattle.setl_modes.specs.Modes.{Mode, Elements, SingleMaps, MultiMaps}
 use Rattle.setl_modes_places.specs.Places.{elements_at, at_pair, at_point}
-use Rattle.setl_base.specs.declared.Elt.{Elt}
 use Rattle.setl_base.specs.Base.{BaseState, Member, IsBase, find, handle, member_at, value_in, value_of}
 use Rattle.setl_rep_bases.specs.declared.BaseId.{BaseId}
 use Rattle.setl_rep_bases.specs.Bases.{BasesState, base_at, named}

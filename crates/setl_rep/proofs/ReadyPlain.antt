@@ -1,5 +1,5 @@
 -- Plain values that are held in the form of a mode.
-use Rattle.std.proofs.Common.{◌≡◌, ℕ, true, Some, refl}
+use Rattle.std.proofs.Common.{◌≡◌, ℕ, true, refl}
 use Rattle.std.proofs.lemmas.Bool.{false≢true}
 use Rattle.setl_value.specs.Datum.{Datum}
 use Rattle.setl_modes.specs.Fits.{datum_fits}

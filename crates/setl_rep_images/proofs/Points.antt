@@ -1,6 +1,5 @@
 -- The numbers of the points of a map.
-use Rattle.std.proofs.Common.{◌≡◌, ◌∙◌, ℕ, zero, suc, ◌+◌, ◌-◌, ◌≤◌, Bool, true, false, ◌&&◌, ◌||◌, cond, nat_eq, nat_lt, List, [], ◌∷◌, length, map, drop, Option, None, Some, refl, sym, ap, subst, arith}
-use Rattle.std.specs.Bool.{Decides}
+use Rattle.std.proofs.Common.{◌≡◌, ◌∙◌, ℕ, zero, suc, ◌+◌, ◌≤◌, Bool, true, false, ◌&&◌, ◌||◌, cond, nat_eq, nat_lt, List, [], ◌∷◌, length, map, drop, Option, None, Some, refl, sym, ap, subst, arith}
 use Rattle.std.specs.Cmp.{nat_cmp_total}
 use Rattle.std.specs.List.{list_any}
 use Rattle.std.specs.Map.{lookup}
@@ -8,7 +7,6 @@ use Rattle.std.specs.Option.{is_some, option_map, IfSome}
 use Rattle.std.specs.Ordering.{nat_cmp, eq_by_cmp}
 use Rattle.std.specs.FinSet as set
 use Rattle.std.proofs.lemmas.Bool.Decides.{nat_tests}
-use Rattle.setl_value.specs.Datum.{Datum}
 use Rattle.setl_operators_table.specs.declared.Operator.TheVariants.{Domain}
 use Rattle.setl_operators_table.specs.Operators.{op_of}
 use Rattle.setl_operators_table.specs.Outcome.{Gives}
@@ -17,7 +15,7 @@ use Rattle.setl_sparse.specs.Entries.{content_at}
 use Rattle.setl_rep_bases.specs.declared.BaseId.{BaseId}
 use Rattle.setl_rep_bases.specs.Bases.{BasesState}
 use Rattle.setl_rep_forms.specs.declared.held.Held.{Held}
-use Rattle.setl_rep_forms.specs.Form.{Form, Layout, Entries, table, numbers, remote, sparse, slots_from, entries_of}
+use Rattle.setl_rep_forms.specs.Form.{Form, table, numbers, remote, sparse, slots_from, entries_of}
 use Rattle.setl_rep_forms.specs.FormOf.{form}
 use Rattle.setl_rep_forms.specs.Stands.{stands, IsOver}
 use Rattle.setl_rep_tables.specs.Tables.{content_in, SlotsAreKeyed}

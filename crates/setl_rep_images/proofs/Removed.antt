@@ -1,10 +1,10 @@
 -- A map without the images of a point.
 use Rattle.std.proofs.Common.{◌≡◌, ◌∙◌, ℕ, Bool, true, false, not, inl, inr, cond, List, [], ◌∷◌, ◌++◌, Option, None, Some, refl, sym, ap, subst}
 use Rattle.std.specs.Bool.{if◌then◌else◌}
-use Rattle.std.specs.List.{Contains, filter, filter_map, cons_option}
+use Rattle.std.specs.List.{Contains, filter_map, cons_option}
 use Rattle.std.proofs.lemmas.Bool.{false≢true}
 use Rattle.std.proofs.lemmas.List.Kept.{IsStrictlySortedBy-filter}
-use Rattle.setl_value.specs.Datum.{Datum, set_of, element_list-elements_of}
+use Rattle.setl_value.specs.Datum.{Datum, element_list-elements_of}
 use Rattle.setl_value.specs.Order.{datum_cmp, IsRising}
 use Rattle.setl_value.specs.Pairs.{pair_parts, first_of, second_of, is_datum, images, pairs_at}
 use Rattle.setl_set.specs.Sets.{set_from}
@@ -21,7 +21,7 @@ use Rattle.setl_rep_forms.specs.Stands.{stands, pairs_in, IsOver}
 use Rattle.setl_rep_tables.specs.Tables.{images_of, table_pairs}
 use Rattle.setl_rep_maps.specs.Contents.{table_of, IsTable, IsPoint, IsKeyedForm, PutsContent}
 use Rattle.setl_rep_maps.specs.Laws.{NoImagesElsewhere, PutsAreImages}
-use Rattle.setl_rep_images.specs.Without.{IsTableLike, IsTakenOut, IsWithoutPoint}
+use Rattle.setl_rep_images.specs.Without.{IsTakenOut, IsWithoutPoint}
 use Rattle.setl_rep_images.proofs.Selected.{of_entries, gathered}
 
 -- ---- a map without a point

@@ -1,5 +1,5 @@
 -- What a map that is held as a table gives of a point.
-use Rattle.std.proofs.Common.{◌≡◌, ◌∙◌, ℕ, ◌≤◌, ◌==◌, Bool, true, false, cond, List, [], ◌∷◌, ◌++◌, length, map, Option, None, Some, IsSome, refl, sym, ap, subst, arith}
+use Rattle.std.proofs.Common.{◌≡◌, ◌∙◌, ℕ, ◌≤◌, ◌==◌, Bool, true, false, cond, List, [], ◌∷◌, ◌++◌, length, map, Option, None, Some, refl, sym, ap, subst, arith}
 use Rattle.std.specs.Prelude.{slice_get}
 use Rattle.std.specs.Bool.{if◌then◌else◌}
 use Rattle.std.specs.Borrow.{Bor}
@@ -8,7 +8,7 @@ use Rattle.std.specs.declared.cmp.Ordering.{Ordering}
 use Rattle.std.specs.declared.cmp.Ordering.TheVariants.{Less, Equal, Greater}
 use Rattle.std.proofs.lemmas.Bool.{and_parts, and_from}
 use Rattle.std.proofs.lemmas.Option.{same_Some}
-use Rattle.setl_value.specs.Datum.{Datum, bool, int, text, atom, tuple, set, set_of, elements_of, element_list, element_list-elements_of, elements_of-element_list, depth, elements_depth, part_depth}
+use Rattle.setl_value.specs.Datum.{Datum, bool, int, text, atom, tuple, set, set_of, elements_of, element_list-elements_of, elements_of-element_list, depth, elements_depth, part_depth}
 use Rattle.setl_value.specs.Order.{datum_cmp}
 use Rattle.setl_value.specs.Pairs.{pair, pair_parts, is_map, images}
 use Rattle.setl_set.specs.Sets.{insert_datum, insert_by, set_from}

@@ -1,5 +1,5 @@
 -- Images are less deep than their map.
-use Rattle.std.proofs.Common.{◌≡◌, ℕ, ◌≤◌, Bool, true, false, cond, List, [], ◌∷◌, Option, None, Some, arith}
+use Rattle.std.proofs.Common.{ℕ, ◌≤◌, Bool, true, false, List, [], ◌∷◌, Option, None, Some, arith}
 use Rattle.std.specs.List.{filter_map, cons_option}
 use Rattle.std.specs.Bool.{if◌then◌else◌}
 use Rattle.setl_value.specs.Datum.{Datum, bool, int, text, atom, tuple, set, no_part, om_then, part_then, elements_of, depth, elements_depth, part_depth}

@@ -1,9 +1,8 @@
-use Rattle.std.proofs.Common.{rules, ◌≡◌, ◌∙◌, ◌+◌, suc, drop, true, Some, sym, ap, subst, arith}
+use Rattle.std.proofs.Common.{rules, ◌≡◌, ◌+◌, suc, drop, sym, ap, subst, arith}
 use Rattle.std.proofs.Math.Seq.{drop-cons}
 use Rattle.std.proofs.lemmas.Result.{IfOk-weaker}
 use Rattle.std.specs.List.{AllByRecursion}
 use Rattle.setl_modes.specs.Modes.{mode_of, Elements}
-use Rattle.setl_rep_bases.specs.Bases.{named}
 use Rattle.setl_rep_forms.specs.FormOf.{form}
 use Rattle.setl_rep.specs.OwnForm.{IsEntryReady}
 use Rattle.setl_rep.proofs.ReadyMaps.{all_left, content_over, height, height_of, ready_map}

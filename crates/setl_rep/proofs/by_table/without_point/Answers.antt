@@ -1,4 +1,4 @@
-use Rattle.std.proofs.Common.{true, is_some}
+use Rattle.std.proofs.Common.{is_some}
 use Rattle.std.proofs.lemmas.Bool.{and_parts}
 use Rattle.setl_rep_forms.specs.FormOf.{form}
 use Rattle.setl_rep_kernels.specs.Kernels.{is_single}

@@ -1,10 +1,9 @@
 use Rattle.std.proofs.Common.{◌≡◌, ◌∙◌, Some, sym, ap}
 use Rattle.setl_value.specs.code.DatumOf.{datum}
-use Rattle.setl_value.specs.Pairs.{images}
 use Rattle.setl_rep_bases.specs.Bases.{base_at}
 use Rattle.setl_rep_forms.specs.FormOf.{form}
 use Rattle.setl_rep_forms.specs.Stands.{value_at}
-use Rattle.setl_rep_maps.specs.Contents.{content_of, images_from, map_pairs}
+use Rattle.setl_rep_maps.specs.Contents.{images_from}
 use Rattle.setl_rep_maps.specs.code.Lent.{lent_form}
 use Rattle.setl_rep_images.proofs.Selected.{images_at, images_in_content, is_content, is_readable}
 use Rattle.setl_rep_images.proofs.contents.point_content.Goals as goal

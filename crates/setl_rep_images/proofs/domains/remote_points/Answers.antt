@@ -1,5 +1,4 @@
-use Rattle.std.proofs.Common.{◌≡◌, subst, sym}
-use Rattle.std.specs.FinSet as set
+use Rattle.std.proofs.Common.{subst, sym}
 use Rattle.setl_rep_images.proofs.Points.{HasBelow, goes_on, has_none}
 use Rattle.setl_rep_images.proofs.domains.remote_points.Goals as goal
 

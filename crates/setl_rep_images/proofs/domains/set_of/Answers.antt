@@ -1,4 +1,4 @@
-use Rattle.std.proofs.Common.{◌≡◌, ◌+◌, ◌<◌, ◌≤◌, suc, List, [], length, drop, subst, sym, arith}
+use Rattle.std.proofs.Common.{◌≡◌, ◌+◌, suc, drop, subst, sym, arith}
 use Rattle.std.proofs.Math.Seq.{drop-cons}
 use Rattle.setl_rep_images.proofs.Points.{IsGathered, gathers_none, gathers, gathered, none_left}
 use Rattle.setl_rep_images.proofs.domains.set_of.Goals as goal
