@@ -48,7 +48,8 @@ impl From<AllocError> for ConvertFault {
 /// Each base that the mode names is lengthened by the values at its places that aren't members yet, in canonical order.
 ///
 /// A set that is held as the numbers that the mode asks for is copied, and shares its numbers: its members are tested one by one,
-/// and no plain set is made.
+/// and no plain set is made. So is an element, a tuple of handles, and a map in table form whose contents are held so or plain as
+/// values without parts.
 ///
 /// `Unfit` comes where the value doesn't fit the mode, and want of memory at any point. After an error the bases are as
 /// before.
