@@ -19,6 +19,9 @@
  * and behind that the line `read fault` or `write fault`. Where it was a line of the status 5, 6 or 7 that couldn't be written,
  * nothing comes behind it, and the status stays. What is written is compared and goes nowhere. An input comes a byte a call.
  *
+ * Where REFUSED_WANTING isn't 0, it is the status with which a copy may end that was refused memory, whatever it wrote: that of a
+ * test that fails. What a test asserts ends it by a signal.
+ *
  * The file that REFUSED_REPORT names gets a line for each of the first wrong copies, and a last line with five counts: the
  * requests or calls that the program made, those that were refused or failed or the limits, endings for that, endings as without
  * it, and wrong ones. */
@@ -63,7 +66,7 @@ struct Stream {
 };
 
 static struct Stream out, err;
-static int status, report, counting, is_copy, later;
+static int status, wanting_status, report, counting, is_copy, later;
 /* With calls that fail: whether they do, the status of the one that failed in this copy, whether that was a write of the error
  * output, what the outputs had got before it, and how many bytes a write takes at most. */
 static int calls, failed, told;
@@ -88,7 +91,10 @@ static void give_up(const char *why) {
   _exit(126);
 }
 
-static unsigned long number(const char *name) { return strtoul(getenv(name), NULL, 10); }
+static unsigned long number(const char *name) {
+  const char *word = getenv(name);
+  return word ? strtoul(word, NULL, 10) : 0;
+}
 
 /* Room that isn't taken from the program's heap. */
 static char *pages(size_t size) {
@@ -141,6 +147,7 @@ static enum End end_of_silent(int own) {
 static enum End end_of(int own) {
   if (most == 0) return end_of_silent(own);
   if (failed) return end_of_failed(own);
+  if (wanting_status && own == wanting_status) return FOR_THIS;
   if (own == NO_MEMORY && status != NO_MEMORY) {
     if (out.count > out.length || memcmp(out.written, out.wanted, out.count) != 0) return OTHER_OUTPUT;
     return is(&err, no_memory, sizeof no_memory - 1) ? FOR_THIS : OTHER_ERRORS;
@@ -301,6 +308,7 @@ static int swept_main(int count, char **words, char **environment) {
   enum End end = AS_WITHOUT;
   report = open(getenv("REFUSED_REPORT"), O_WRONLY | O_CREAT | O_APPEND, 0600);
   status = number("REFUSED_STATUS");
+  wanting_status = number("REFUSED_WANTING");
   part = number("REFUSED_PART");
   parts = number("REFUSED_PARTS");
   step = number("REFUSED_STEP");

@@ -16,7 +16,7 @@ abbrev pub fresh : ℕ → ControlState
 fresh turns = record { turns = turns; atom = 1; eof = false; reader = record { kept = []; ended = false; fault = None } }
 
 pub stands_first : StartsFit → (d : DeclarationTable) (code : Code) (input : List ℕ) (turns : ℕ) (m : Machine) → d.code ≡ code → IsBare (plain_code code) → AreOfMain (modes_of d) →
-    m.store ≡ started code → m.control ≡ fresh turns → m.input ≡ input → m.output ≡ [] → StandsAt d (code_first (plain_code d.code) input turns) m
+    m.store ≡ started 0 code → m.control ≡ fresh turns → m.input ≡ input → m.output ≡ [] → StandsAt d (code_first (plain_code d.code) input turns) m
 stands_first fit d code input turns m same bare main store control left held = record {
   serves = record {
     same = same ∙ sym (ap (λ (s : Standing). s.code) store);

@@ -47,7 +47,7 @@ pub(crate) fn started<'p>(subject: &Subject<'p>, turns: u64) -> Result<Machine<'
 {
     declared_variables_fit();
     let alloc = subject.alloc;
-    let store = Store::start(alloc, subject.code, subject.bases)?;
+    let store = Store::start(alloc, subject.code, subject.bases, false)?;
     let control = Control::new(alloc, turns)?;
     let input = SureSource::new(subject.input.to_vec(alloc)?);
     let output = SureSink::new(alloc)?;

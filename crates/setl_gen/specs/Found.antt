@@ -39,4 +39,4 @@ around i = names.around i.0 (names.in_exprs i.1)
 -- those of further branches of a choice
 abbrev pub branch_variables : List Branch → List Variable
 branch_variables [] = []
-branch_variables (b ∷ bs) = in_expr (plain_expr (out-Branch b).condition) ++ in_block (plain_block (out-Branch b).body) ++ branch_variables bs
+branch_variables (branch ∷ branches) = in_expr (plain_expr (out-Branch branch).condition) ++ in_block (plain_block (out-Branch branch).body) ++ branch_variables branches

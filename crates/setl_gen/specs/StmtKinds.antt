@@ -43,5 +43,5 @@ IsBranch leaves b old overs new more =
 
 -- Whatever comes behind them, once the jumps are closed it is what stands behind the `else` before them.
 abbrev pub AreBranches : (leaves : ℕ) → List Branch → Emitted → List Hole → Emitted → List Hole → Type 0
-AreBranches leaves bs old overs new more =
-    (q : plain.Block) → closed more (after (block leaves q) new) ≡ closed overs (after (block leaves (otherwise (map plain_branch bs) q)) old)
+AreBranches leaves branches old overs new more =
+    (last : plain.Block) → closed more (after (block leaves last) new) ≡ closed overs (after (block leaves (otherwise (map plain_branch branches) last)) old)

@@ -34,9 +34,29 @@ pub fn expr<'p>(emitter: &mut Emitter<'p>, line: u32, e: &'p Expr) -> Result<(),
         Expr::Apply(o, es) => apply(emitter, line, *o, es.as_slice()),
         Expr::Chain(first, ls) => chain(emitter, line, ls.as_slice(), first.get()),
         Expr::Choose(t, a, b) => choose(emitter, line, t.get(), a.get(), b.get()),
-        Expr::Former(k, e, is, t) => former(emitter, line, *k, e.get(), is.as_slice(), t),
-        Expr::Selection(k, b, es, c) => selection(emitter, line, *k, b, es.as_slice(), c.get()),
-        Expr::Quantified(q, is, c) => quantified(emitter, line, *q, is.as_slice(), c.get()),
+        Expr::Former(collection, e, is, t) => former(
+            emitter,
+            line,
+            *collection,
+            e.get(),
+            is.as_slice(),
+            t,
+        ),
+        Expr::Selection(collection, b, es, c) => selection(
+            emitter,
+            line,
+            *collection,
+            b,
+            es.as_slice(),
+            c.get(),
+        ),
+        Expr::Quantified(quantifier, is, c) => quantified(
+            emitter,
+            line,
+            *quantifier,
+            is.as_slice(),
+            c.get(),
+        ),
         Expr::Call(f, all) => call(emitter, line, *f, all.as_slice()),
         Expr::Newat => emitter.put(line, Instr::NewAtom),
         Expr::Eof => emitter.put(line, Instr::Eof),
@@ -195,7 +215,7 @@ fn link<'p>(emitter: &mut Emitter<'p>, line: u32, l: &'p Link) -> Result<(), All
             emitter.put(line, Instr::Operate(*o, 3))?;
             Ok(())
         }
-        Link::Connect(k, x) => connect(emitter, line, *k, x.get()),
+        Link::Connect(connective, x) => connect(emitter, line, *connective, x.get()),
     }
 }
 

@@ -239,10 +239,10 @@ fn argument<'p>(x: &'p Argument, all: &mut Found<'p>) -> Result<(), AllocError>
 }
 
 /// The variables of selectors.
-fn selectors<'p>(ss: &'p [Selector], all: &mut Found<'p>) -> Result<(), AllocError>
-    ensures { OnOk result (all.new ≡ all.old ++ names.in_selectors (selectors_of ss.now)) }
+fn selectors<'p>(selectors: &'p [Selector], all: &mut Found<'p>) -> Result<(), AllocError>
+    ensures { OnOk result (all.new ≡ all.old ++ names.in_selectors (selectors_of selectors.now)) }
 {
-    for s in ss {
+    for s in selectors {
         selector(s, all)?;
     }
     Ok(())
@@ -278,10 +278,10 @@ fn variables<'p>(xs: &'p [Variable], all: &mut Found<'p>) -> Result<(), AllocErr
 
 /// The variables of statements.
 #[cycle(stmts)]
-pub fn block<'p>(ss: &'p [Stmt], all: &mut Found<'p>) -> Result<(), AllocError>
-    ensures { OnOk result (all.new ≡ all.old ++ names.in_block (plain_block ss.now)) }
+pub fn block<'p>(statements: &'p [Stmt], all: &mut Found<'p>) -> Result<(), AllocError>
+    ensures { OnOk result (all.new ≡ all.old ++ names.in_block (plain_block statements.now)) }
 {
-    for s in ss {
+    for s in statements {
         stmt(s, all)?;
     }
     Ok(())
@@ -297,10 +297,10 @@ fn stmt<'p>(s: &'p Stmt, all: &mut Found<'p>) -> Result<(), AllocError>
 
 /// The variables of what a statement is.
 #[cycle(stmts)]
-fn kind<'p>(k: &'p StmtKind, all: &mut Found<'p>) -> Result<(), AllocError>
-    ensures { OnOk result (all.new ≡ all.old ++ names.in_stmt (plain_kind k.now)) }
+fn kind<'p>(kind: &'p StmtKind, all: &mut Found<'p>) -> Result<(), AllocError>
+    ensures { OnOk result (all.new ≡ all.old ++ names.in_stmt (plain_kind kind.now)) }
 {
-    match k {
+    match kind {
         StmtKind::Assign(p, e) => {
             place(p, all)?;
             expr(e, all)
@@ -318,10 +318,10 @@ fn kind<'p>(k: &'p StmtKind, all: &mut Found<'p>) -> Result<(), AllocError>
             place(p, all)
         }
         StmtKind::Perform(e) => expr(e, all),
-        StmtKind::If(c, x, bs, y) => {
+        StmtKind::If(c, x, further, y) => {
             expr(c, all)?;
             block(x.as_slice(), all)?;
-            branches(bs.as_slice(), all)?;
+            branches(further.as_slice(), all)?;
             block(y.as_slice(), all)?;
             Ok(())
         }
@@ -360,10 +360,10 @@ fn optional<'p>(t: &'p Option<Expr>, all: &mut Found<'p>) -> Result<(), AllocErr
 
 /// The variables of further branches.
 #[cycle(stmts)]
-fn branches<'p>(bs: &'p [Branch], all: &mut Found<'p>) -> Result<(), AllocError>
-    ensures { OnOk result (all.new ≡ all.old ++ branch_variables bs.now) }
+fn branches<'p>(branches: &'p [Branch], all: &mut Found<'p>) -> Result<(), AllocError>
+    ensures { OnOk result (all.new ≡ all.old ++ branch_variables branches.now) }
 {
-    for b in bs {
+    for b in branches {
         expr(&b.condition, all)?;
         block(b.body.as_slice(), all)?;
     }

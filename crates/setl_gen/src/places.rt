@@ -27,10 +27,14 @@ fn selector<'p>(emitter: &mut Emitter<'p>, line: u32, s: &'p Selector) -> Result
 }
 
 /// The selectors of a place.
-fn selectors<'p>(emitter: &mut Emitter<'p>, line: u32, ss: &'p [Selector]) -> Result<(), AllocError>
-    ensures { OnOk result (held emitter.new ≡ after (code.selectors line (selectors_of ss.now)) (held emitter.old)) }
+fn selectors<'p>(
+    emitter: &mut Emitter<'p>,
+    line: u32,
+    selectors: &'p [Selector],
+) -> Result<(), AllocError>
+    ensures { OnOk result (held emitter.new ≡ after (code.selectors line (selectors_of selectors.now)) (held emitter.old)) }
 {
-    for s in ss {
+    for s in selectors {
         selector(emitter, line, s)?;
     }
     Ok(())
@@ -47,14 +51,14 @@ fn bracket(s: &Selector) -> Bracket
 }
 
 /// How selectors are written.
-fn brackets(alloc: Global, ss: &[Selector]) -> Result<Items<Bracket>, AllocError>
-    ensures { IfOk result (λ bs. map plain_bracket bs ≡ code.brackets (selectors_of ss.now)) }
+fn brackets(alloc: Global, selectors: &[Selector]) -> Result<Items<Bracket>, AllocError>
+    ensures { IfOk result (λ written. map plain_bracket written ≡ code.brackets (selectors_of selectors.now)) }
 {
-    let mut bs = Items::new(alloc);
-    for s in ss {
-        bs.push(bracket(s))?;
+    let mut written = Items::new(alloc);
+    for s in selectors {
+        written.push(bracket(s))?;
     }
-    Ok(bs)
+    Ok(written)
 }
 
 /// The part at a place is changed.
@@ -67,9 +71,12 @@ pub fn alter<'p>(
     ensures { OnOk result (held emitter.new ≡ after (code.alter line (plain_alteration a) (plain_variable p.now.variable) (selectors_of p.now.selectors)) (held emitter.old)) }
 {
     selectors(emitter, line, p.selectors.as_slice())?;
-    let bs = brackets(emitter.alloc, p.selectors.as_slice())?;
+    let written = brackets(emitter.alloc, p.selectors.as_slice())?;
     let slot = emitter.names.slot(&p.variable)?;
-    emitter.put(line, Instr::Alter(a, slot, Boxed::new(emitter.alloc, bs)?))?;
+    emitter.put(
+        line,
+        Instr::Alter(a, slot, Boxed::new(emitter.alloc, written)?),
+    )?;
     Ok(())
 }
 

@@ -19,10 +19,14 @@ use std::alloc::AllocError;
 
 /// Statements in their order, in a loop with so many iterators.
 #[cycle(stmt)]
-pub fn block<'p>(emitter: &mut Emitter<'p>, leaves: u32, ss: &'p [Stmt]) -> Result<(), AllocError>
-    ensures { OnOk result (held emitter.new ≡ after (code.block leaves (plain_block ss.now)) (held emitter.old)) }
+pub fn block<'p>(
+    emitter: &mut Emitter<'p>,
+    leaves: u32,
+    statements: &'p [Stmt],
+) -> Result<(), AllocError>
+    ensures { OnOk result (held emitter.new ≡ after (code.block leaves (plain_block statements.now)) (held emitter.old)) }
 {
-    for s in ss {
+    for s in statements {
         stmt(emitter, leaves, s)?;
     }
     Ok(())
@@ -42,20 +46,20 @@ fn kind<'p>(
     emitter: &mut Emitter<'p>,
     leaves: u32,
     line: u32,
-    k: &'p StmtKind,
+    kind: &'p StmtKind,
 ) -> Result<(), AllocError>
-    ensures { OnOk result (held emitter.new ≡ after (code.stmt leaves line (plain_kind k.now)) (held emitter.old)) }
+    ensures { OnOk result (held emitter.new ≡ after (code.stmt leaves line (plain_kind kind.now)) (held emitter.old)) }
 {
-    match k {
+    match kind {
         StmtKind::Assign(p, e) => assign(emitter, line, p, e),
         StmtKind::Update(o, p, e) => update(emitter, line, *o, p, e),
         StmtKind::AssignParts(xs, e) => assign_parts(emitter, line, xs.as_slice(), e),
-        StmtKind::TakeFrom(k, x, p) => take_from(emitter, line, *k, x, p),
+        StmtKind::TakeFrom(taking, x, p) => take_from(emitter, line, *taking, x, p),
         StmtKind::Perform(e) => perform(emitter, line, e),
-        StmtKind::If(c, x, bs, y) => {
+        StmtKind::If(c, x, further, y) => {
             let mut overs = Items::new(emitter.alloc);
             guard(emitter, leaves, line, x.as_slice(), c, &mut overs)?;
-            branches(emitter, leaves, bs.as_slice(), &mut overs)?;
+            branches(emitter, leaves, further.as_slice(), &mut overs)?;
             block(emitter, leaves, y.as_slice())?;
             emitter.close(overs)?;
             Ok(())
@@ -126,12 +130,12 @@ fn branch<'p>(
 fn branches<'p>(
     emitter: &mut Emitter<'p>,
     leaves: u32,
-    bs: &'p [Branch],
+    branches: &'p [Branch],
     overs: &mut Items<Hole>,
 ) -> Result<(), AllocError>
-    ensures { OnOk result (AreBranches leaves bs.now (held emitter.old) overs.old (held emitter.new) overs.new) }
+    ensures { OnOk result (AreBranches leaves branches.now (held emitter.old) overs.old (held emitter.new) overs.new) }
 {
-    for b in bs {
+    for b in branches {
         branch(emitter, leaves, b, overs)?;
     }
     Ok(())

@@ -1,10 +1,11 @@
 -- Bases and declared variables whose modes keep the rules of a `repr` section.
-use Rattle.std.specs.Prelude.{◌≡◌, ◌↔◌, IsTrue, refl, ℕ, Bool, true, false, not, ◌&&◌, ◌||◌, nat_eq, List, map, slice_get, Option, Some, None}
+use Rattle.std.specs.Prelude.{◌≡◌, ◌↔◌, IsTrue, refl, ℕ, Bool, true, false, not, ◌&&◌, ◌||◌, List, map, slice_get, Option, Some, None}
 use Rattle.std.specs.List.{AllByRecursion, list_all}
 use Rattle.setl_modes.specs.declared.mode.NamedMode.{NamedMode}
 use Rattle.setl_modes.specs.declared.mode.Form.{Form}
 use Rattle.setl_modes.specs.declared.mode.Form.TheVariants.{Plain, Local, Remote, Sparse}
-use Rattle.setl_modes.specs.Modes.{Mode, General, Integers, Strings, Booleans, Atoms, Elements, Sets, Tuples, SingleMaps, MultiMaps, mode_of}
+use Rattle.setl_modes.specs.Modes.{Mode, Integers, Elements, Sets, Tuples, SingleMaps, MultiMaps, mode_of}
+use Rattle.setl_modes_same.specs.Same.{same_mode}
 
 -- a name with its mode
 abbrev pub Named : Type 0
@@ -72,26 +73,6 @@ abbrev pub named_of : NamedMode → Named
 named_of d = (d.name, mode_of d.mode)
 
 -- ---- as tests
-
-abbrev pub same_form : Form → Form → Bool
-same_form Plain Plain = true
-same_form Local Local = true
-same_form Remote Remote = true
-same_form Sparse Sparse = true
-same_form f g = false
-
-abbrev pub same_mode : Mode → Mode → Bool
-same_mode General General = true
-same_mode Integers Integers = true
-same_mode Strings Strings = true
-same_mode Booleans Booleans = true
-same_mode Atoms Atoms = true
-same_mode (Elements j m) (Elements k n) = nat_eq j k && same_mode m n
-same_mode (Sets f m) (Sets g n) = same_form f g && same_mode m n
-same_mode (Tuples m) (Tuples n) = same_mode m n
-same_mode (SingleMaps f d r) (SingleMaps g e s) = same_form f g && same_mode d e && same_mode r s
-same_mode (MultiMaps f d r) (MultiMaps g e s) = same_form f g && same_mode d e && same_mode r s
-same_mode m n = false
 
 abbrev pub is_of_base : Option Mode → Mode → Bool
 is_of_base None m = false

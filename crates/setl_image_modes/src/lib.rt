@@ -2,6 +2,5 @@
 #![tactic(auto)]
 
 mod rules;
-mod same;
 
 pub use rules::{bases_are_told, is_of_base, modes_are_sound};

@@ -5,8 +5,8 @@ ghost use Rattle.setl_modes.specs.Modes.{mode_of};
 ghost use Rattle.setl_modes.specs.Modes as plain;
 ghost use Rattle.setl_image_modes.specs.SoundModes.{SoundModes, BasesAreTold, named_of, is_element, is_set, has_element, form_fits, keeps_rules, names_bases, bases_fit, vars_fit, modes_of};
 
-use crate::same::same_mode;
 use setl_modes::{Form, Mode, ModeTable, NamedMode};
+use setl_modes_same::same_mode;
 
 /// Whether the modes of bases and declared variables keep the rules of a section.
 ///

@@ -55,7 +55,7 @@ SomeRan modes c old new e = (rest' : List ℕ) → IsRest (ahead new.control.rea
 
 -- ---- calls in a row
 
-told_behind : (s : State CodeCore) (x : Next CodeCore) → events_told (all_behind s x) ≡ s.events ++ events_told x
+pub told_behind : (s : State CodeCore) (x : Next CodeCore) → events_told (all_behind s x) ≡ s.events ++ events_told x
 told_behind s (Goes t) = refl
 told_behind s (Ends e t) = refl
 
@@ -180,7 +180,7 @@ ends_silent nothing modes c k e s main bare h = go (fetch c k.now.body k.now.at)
     go None h = sym (ap events_told h)
     go (Some (line, i)) h = nothing c (tested modes) line i (start k) e s (bindings_fit modes c main bare i) h
 
-silent : EndsTellNothing → (modes : Modes) (c : Code) (k to : CodeCore) (e : End) → AreOfMain modes → IsBare c → (e ≡ Paused → ⊥) → Answers modes (step (machine c) (tested modes) (start k)) to e → events_told (step (machine c) (tested modes) (start k)) ≡ []
+pub silent : EndsTellNothing → (modes : Modes) (c : Code) (k to : CodeCore) (e : End) → AreOfMain modes → IsBare c → (e ≡ Paused → ⊥) → Answers modes (step (machine c) (tested modes) (start k)) to e → events_told (step (machine c) (tested modes) (start k)) ≡ []
 silent nothing modes c k to e main bare ne a = go (step (machine c) (tested modes) (start k)) e refl ne a
   where
     go : (x : Next CodeCore) (e : End) → step (machine c) (tested modes) (start k) ≡ x → (e ≡ Paused → ⊥) → Answers modes x to e → events_told x ≡ []

@@ -20,3 +20,5 @@ pub mod Serving
 pub mod AtOnce
 pub mod ByFamily
 pub mod Members
+pub mod Gaining
+pub mod RunGains

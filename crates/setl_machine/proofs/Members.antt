@@ -1,5 +1,5 @@
 -- What kernels on sets in forms tell is what operators give of the operands on top.
-use Rattle.std.proofs.Common.{◌≡◌, ℕ, Bool, List, [], ◌∷◌, Option, None, Some, IfSome, drop, ap, sym, subst}
+use Rattle.std.proofs.Common.{◌≡◌, ℕ, Bool, List, [], ◌∷◌, Option, None, Some, IfSome, drop, sym, subst}
 use Rattle.setl_value.specs.Datum.{Datum}
 use Rattle.setl_operators_table.specs.declared.Operator.{Operator}
 use Rattle.setl_operators_table.specs.declared.Operator.TheVariants.{In}

@@ -96,6 +96,7 @@ operated old new from to line n charged o vs ys v pops gives same put =
           ∙ ap (λ w. with_outcome w line k (λ u l. next (Holds u ∷ ys) l)) gives in
           let there : stood_for new.core to rest ≡ at_step (suc k.now.at) (Holds v ∷ ys) d = λ i. stood_for (put i).core (same i) rest in
           subst (λ m. Quiet modes (settle (machine c) (tested modes) (start k) m) (stood_for new.core to rest) end.Paused) (sym does) (sym there, refl),
+      ap (λ s. s.bases) put,
     )
 
 -- the same by what was put in the place of the two on top, or of the one

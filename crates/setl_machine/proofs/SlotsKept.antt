@@ -1,5 +1,5 @@
 -- A step that ends a run leaves every slot as it was.
-use Rattle.std.proofs.Common.{◌≡◌, ◌⊎◌, inl, inr, ◌∙◌, ℕ, Bool, true, false, List, [], ◌∷◌, ◌++◌, length, Option, None, Some, refl, ap, subst}
+use Rattle.std.proofs.Common.{◌≡◌, ℕ, Bool, true, false, List, [], ◌∷◌, ◌++◌, length, Option, None, Some, refl, subst}
 use Rattle.std.specs.Prelude.{slice_get}
 use Rattle.setl_value.specs.Datum.{Datum, bool, int, text, atom, tuple, set}
 use Rattle.setl_operators_table.specs.Outcome.{Outcome}

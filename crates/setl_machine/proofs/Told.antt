@@ -63,7 +63,7 @@ told_in_world line (Global name) w k = refl
 told_in_world line (Own body name) w k = refl
 told_in_world line (Bound former name) w k = refl
 
-held_here : (x : Variable) (w : World) (k : CodeCore) → held x (in_world w k) ≡ held x k
+pub held_here : (x : Variable) (w : World) (k : CodeCore) → held x (in_world w k) ≡ held x k
 held_here (Global name) w k = refl
 held_here (Own body name) w k = refl
 held_here (Bound former name) w k = refl

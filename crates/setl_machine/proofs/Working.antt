@@ -15,7 +15,7 @@ use Rattle.setl_store.specs.Standing.{Standing, over, at_place}
 use Rattle.setl_machine_control.specs.Control.{ControlState, world_of, in_world, stood_for}
 use Rattle.setl_machine_control.specs.Declaring.{Modes, tested}
 use Rattle.setl_machine_control.specs.Answers.{start, IsLikely, Quiet}
-use Rattle.setl_machine_control.specs.Working.{Works, Does, DoesBy, Halted}
+use Rattle.setl_machine_control.specs.Working.{Works, Does, WorksApart, DoesApart, DoesBy, Halted}
 use Rattle.setl_machine.specs.Working.{Judges}
 use Rattle.setl_machine_control.specs.declared.end.End.{End}
 use Rattle.setl_machine_control.specs.declared.end.End.TheVariants.{Paused}
@@ -29,6 +29,7 @@ goes old new line what at xs e f =
       λ modes w.
           let k = in_world w old.core in
           subst (λ m. Quiet modes (settle (machine c) (tested modes) (start k) m) (in_world w new.core) Paused) (sym (f w)) (sym (ap (λ s. in_world w s.core) e), refl),
+      ap (λ s. s.bases) e,
     )
 
 -- it ends the run, when some operands may be gone
@@ -39,6 +40,7 @@ stops old new line what xs e h f =
       λ modes w.
           let k = in_world w old.core in
           halted_quiet modes c k (in_world w new.core) (do_instr c line what k) e (subst (λ (s : Standing). IsLikely k (in_world w s.core)) (sym h) (likely_over w old.core xs)) (f w),
+      ap (λ s. s.bases) h,
     )
 
 -- where no connective is decided, none goes on
@@ -56,12 +58,22 @@ stops_with old new from to line what xs e h same f =
           let k = stood_for old.core from rest in
           let likely : IsLikely k (stood_for (over xs old.core) from rest) = likely_over (world_of from rest) old.core xs in
           halted_quiet modes c k (stood_for new.core to rest) (do_instr c line what k) e (subst (λ (s : Standing). IsLikely k (stood_for s.core to rest)) (sym h) (subst (λ d. IsLikely k (stood_for (over xs old.core) d rest)) (sym same) likely)) (f rest),
+      ap (λ s. s.bases) h,
     )
 
 -- what doesn't ask the control does the same with any
 pub works_alone : (old new : Standing) (from : ControlState) (line : ℕ) (what : Instr) (r : Result End AllocError) → IfOk r (λ e. Works old line what new e) → IfOk r (λ e. Does old from line what new from e)
-works_alone old new from line what (Ok e) h = (h.0, λ modes rest. h.1 modes (world_of from rest))
+works_alone old new from line what (Ok e) h = (h.0, λ modes rest. h.1 modes (world_of from rest), h.2)
 works_alone old new from line what (Err e) h = tt
+
+-- the same but for the bases
+pub works_apart : (old new : Standing) (from : ControlState) (line : ℕ) (what : Instr) (r : Result End AllocError) → IfOk r (λ e. WorksApart old line what new e) → IfOk r (λ e. DoesApart old from line what new from e)
+works_apart old new from line what (Ok e) h = (h.0, λ modes rest. h.1 modes (world_of from rest))
+works_apart old new from line what (Err e) h = tt
+
+pub does_apart : (modes : Modes) (old new : Standing) (from to : ControlState) (line : ℕ) (what : Instr) (r : Result End AllocError) → IfOk r (λ e. DoesApart old from line what new to e) → IfOk r (λ e. DoesBy modes old from line what new to e)
+does_apart modes old new from to line what (Ok e) h = (h.0, h.1 modes)
+does_apart modes old new from to line what (Err e) h = tt
 
 -- what tests no value does the same by any declarations
 pub does_untested : (modes : Modes) (old new : Standing) (from to : ControlState) (line : ℕ) (what : Instr) (r : Result End AllocError) → IfOk r (λ e. Does old from line what new to e) → IfOk r (λ e. DoesBy modes old from line what new to e)

@@ -4,3 +4,4 @@ pub mod Working
 pub mod Operating
 pub mod Hearing
 pub mod Held
+pub mod Gaining

@@ -1,13 +1,15 @@
 //! The common instructions, which are tried first, in one `match`.
 
-ghost use Rattle.std.specs.Prelude.{◌≡◌, ℕ, length, map};
+ghost use Rattle.std.specs.Prelude.{◌≡◌, ℕ, List, length, map};
 ghost use Rattle.setl_code.specs.Code.{Operate, Alter, NextOr, CallBody, ReturnTop};
+ghost use Rattle.setl_code.specs.CodeCore.{CodeCore};
 ghost use Rattle.setl_code.specs.MayRun.{HasSlot, CanAlter, InstrFits};
 ghost use Rattle.setl_code.specs.Plain.{plain_code, plain_instr, plain_slot, plain_bracket, plain_alteration};
 ghost use Rattle.setl_operators_table.specs.Operators.{TakesOperands};
 ghost use Rattle.setl_store.specs.Standing.{variables, CanGoOn};
-ghost use Rattle.setl_machine_control.specs.Control.{ControlState};
+ghost use Rattle.setl_machine_control.specs.Control.{ControlState, stood_for};
 ghost use Rattle.setl_machine_control.specs.Declaring.{Modes, modes_of, Serves, AreOfMain, IsBare};
+ghost use Rattle.setl_machine.specs.Gaining.{GainsOrLeaves, StayBases};
 ghost use Rattle.setl_machine.specs.Working.{went_on, DoesOrLeaves};
 
 use crate::calling::{call, leave_body};
@@ -39,6 +41,7 @@ pub(crate) fn at_once(
     requires fits { InstrFits (length store.old.core.globals) (length store.old.core.now.own) what.now }
     requires serves { Serves declarations.now store.old }
     ensures did { DoesOrLeaves (modes_of declarations.now) store.old control.old line (plain_instr (variables store.old.core) what.now) store.new control.new result }
+    ensures gained { (rest rest' : List ℕ) → GainsOrLeaves (modes_of declarations.now) (plain_code store.old.code) line (plain_instr (variables store.old.core) what.now) (stood_for store.old.core control.old rest) (stood_for store.new.core control.new rest') store.old.bases store.new.bases result }
     ensures reader { control.new.reader ≡ control.old.reader }
 {
     match what {
@@ -77,7 +80,8 @@ fn others_at_once(
     control: &Control,
 ) -> Result<bool, End>
     requires few { CanGoOn store.old }
-    ensures { (modes : Modes) → DoesOrLeaves modes store.old control.now line (plain_instr (variables store.old.core) what.now) store.new control.now result }
+    ensures did { (modes : Modes) → DoesOrLeaves modes store.old control.now line (plain_instr (variables store.old.core) what.now) store.new control.now result }
+    ensures gained { (modes : Modes) (k d : CodeCore) → GainsOrLeaves modes (plain_code store.old.code) line (plain_instr (variables store.old.core) what.now) k d store.old.bases store.new.bases result }
 {
     match what {
         Instr::Truth(truth) => went_on(push(Some(Value::Bool(*truth)), store)),
@@ -118,6 +122,7 @@ fn operate_at_once(
     requires few { CanGoOn store.old }
     requires fits { TakesOperands what count }
     ensures did { (modes : Modes) → DoesOrLeaves modes store.old control.old line (Operate what count) store.new control.new result }
+    ensures bases { StayBases store.old.bases store.new.bases result }
     ensures reader { control.new.reader ≡ control.old.reader }
 {
     match freely_of_top(what, store) {
@@ -138,6 +143,7 @@ fn operate_else(
     requires few { CanGoOn store.old }
     requires fits { TakesOperands what count }
     ensures did { (modes : Modes) → DoesOrLeaves modes store.old control.old line (Operate what count) store.new control.new result }
+    ensures bases { StayBases store.old.bases store.new.bases result }
     ensures reader { control.new.reader ≡ control.old.reader }
 {
     match freely_of_one(what, store) {
@@ -162,6 +168,7 @@ fn alter_at_once(
     requires can { CanAlter what }
     requires serves { Serves declarations.now store.old }
     ensures did { DoesOrLeaves (modes_of declarations.now) store.old control.old line (Alter (plain_alteration what) (plain_slot (variables store.old.core) slot) (map plain_bracket brackets.now)) store.new control.new result }
+    ensures gained { (rest rest' : List ℕ) → GainsOrLeaves (modes_of declarations.now) (plain_code store.old.code) line (Alter (plain_alteration what) (plain_slot (variables store.old.core) slot) (map plain_bracket brackets.now)) (stood_for store.old.core control.old rest) (stood_for store.new.core control.new rest') store.old.bases store.new.bases result }
     ensures reader { control.new.reader ≡ control.old.reader }
 {
     went_on(update(what, slot, brackets, line, declarations, store, control))
@@ -177,6 +184,7 @@ fn call_at_once(
 ) -> Result<bool, End>
     requires { CanGoOn store.old }
     ensures did { (modes : Modes) → AreOfMain modes → IsBare (plain_code store.old.code) → DoesOrLeaves modes store.old control.old line (CallBody body) store.new control.new result }
+    ensures bases { StayBases store.old.bases store.new.bases result }
     ensures reader { control.new.reader ≡ control.old.reader }
 {
     went_on(call(body, line, store, control))
@@ -185,7 +193,8 @@ fn call_at_once(
 /// Does a return.
 #[inline(always)]
 fn return_at_once(store: &mut Store<'_>) -> Result<bool, End>
-    ensures { (modes : Modes) (control : ControlState) (line : ℕ) → DoesOrLeaves modes store.old control line ReturnTop store.new control result }
+    ensures did { (modes : Modes) (control : ControlState) (line : ℕ) → DoesOrLeaves modes store.old control line ReturnTop store.new control result }
+    ensures bases { StayBases store.old.bases store.new.bases result }
 {
     went_on(leave_body(store))
 }
@@ -200,6 +209,7 @@ fn next_at_once(
 ) -> Result<bool, End>
     requires few { CanGoOn store.old }
     ensures did { (modes : Modes) → DoesOrLeaves modes store.old control.old line (NextOr to) store.new control.new result }
+    ensures bases { StayBases store.old.bases store.new.bases result }
     ensures reader { control.new.reader ≡ control.old.reader }
 {
     went_on(next(to, store, control))

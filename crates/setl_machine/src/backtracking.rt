@@ -2,11 +2,13 @@
 
 ghost use Rattle.std.specs.Prelude.{◌≡◌, ℕ, IfOk};
 ghost use Rattle.setl_code.specs.CodeCore.{CodeCore};
-ghost use Rattle.setl_code.specs.Plain.{Variables, plain_instr};
+ghost use Rattle.setl_code.specs.Plain.{Variables, plain_code, plain_instr};
 ghost use Rattle.setl_code.specs.Code.{Code};
 ghost use Rattle.setl_store.specs.Standing.{variables, CanGoOn};
-ghost use Rattle.setl_machine_control.specs.Working.{Does};
+ghost use Rattle.setl_machine_control.specs.Declaring.{Modes};
+ghost use Rattle.setl_machine_control.specs.Working.{DoesApart};
 ghost use Rattle.setl_machine.specs.Families.{family_of};
+ghost use Rattle.setl_machine.specs.Gaining.{Gains};
 ghost use Rattle.setl_machine.specs.Hearing.{Tells};
 ghost use Rattle.setl_machine.specs.declared.families.Family.{Family};
 
@@ -26,7 +28,8 @@ pub(crate) fn do_backtracking(
 ) -> Result<End, AllocError>
     requires is { family_of what.now ≡ Family.Backtracking }
     requires few { CanGoOn store.old }
-    ensures did { IfOk result (λ end. Does store.old control.old line (plain_instr (variables store.old.core) what.now) store.new control.new end) }
+    ensures did { IfOk result (λ end. DoesApart store.old control.old line (plain_instr (variables store.old.core) what.now) store.new control.new end) }
+    ensures gained { (modes : Modes) (k d : CodeCore) → IfOk result (λ end. Gains modes (plain_code store.old.code) line (plain_instr (variables store.old.core) what.now) k d store.old.bases store.new.bases end) }
     ensures reader { control.new.reader ≡ control.old.reader }
 {
     match what {

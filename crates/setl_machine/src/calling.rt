@@ -3,6 +3,7 @@
 ghost use Rattle.std.specs.Prelude.{◌≡◌, ℕ, ◌<◌, length, map, slice_get, Some, None, IfSome, IfNone, IfOk};
 ghost use Rattle.std.specs.Option.{option_map};
 ghost use Rattle.setl_code.specs.Code.{CallBody, ReturnTop};
+ghost use Rattle.setl_code.specs.CodeCore.{CodeCore};
 ghost use Rattle.setl_code.specs.MayRun.{InstrFits};
 ghost use Rattle.setl_code.specs.Plain.{plain_code, plain_instr};
 ghost use Rattle.setl_store.specs.Standing.{variables, CanGoOn};
@@ -12,6 +13,7 @@ ghost use Rattle.setl_machine_control.specs.Working.{Works, DoesBy};
 ghost use Rattle.setl_machine.specs.Working.{HasParameters, TakesArguments, Begins};
 ghost use Rattle.setl_machine.specs.Hearing.{DoesTelling};
 ghost use Rattle.setl_machine.specs.Families.{family_of};
+ghost use Rattle.setl_machine.specs.Gaining.{Gains};
 ghost use Rattle.setl_machine.specs.declared.families.Family.{Family};
 
 use crate::telling::alone_telling;
@@ -36,6 +38,7 @@ pub(crate) fn do_call(
     requires few { CanGoOn store.old }
     requires serves { Serves declarations.now store.old }
     ensures did { IfOk result (λ end. DoesBy (modes_of declarations.now) store.old control.old line (plain_instr (variables store.old.core) what.now) store.new control.new end) }
+    ensures gained { (k d : CodeCore) → IfOk result (λ end. Gains (modes_of declarations.now) (plain_code store.old.code) line (plain_instr (variables store.old.core) what.now) k d store.old.bases store.new.bases end) }
     ensures reader { control.new.reader ≡ control.old.reader }
 {
     match what {
@@ -78,6 +81,7 @@ pub(crate) fn call(
 ) -> Result<End, AllocError>
     requires { CanGoOn store.old }
     ensures did { (modes : Modes) → AreOfMain modes → IsBare (plain_code store.old.code) → IfOk result (λ end. DoesBy modes store.old control.old line (CallBody body) store.new control.new end) }
+    ensures bases { IfOk result (λ _. store.new.bases ≡ store.old.bases) }
     ensures reader { control.new.reader ≡ control.old.reader }
 {
     let Some(values) = arguments(body, store)? else {

@@ -10,6 +10,7 @@ ghost use Rattle.setl_machine_control.specs.Declaring.{modes_of, Serves};
 ghost use Rattle.setl_machine_control.specs.declared.end.End.{End};
 ghost use Rattle.setl_machine_control.specs.Working.{DoesBy};
 ghost use Rattle.setl_machine.specs.Families.{family_of};
+ghost use Rattle.setl_machine.specs.Gaining.{Gains};
 ghost use Rattle.setl_machine.specs.declared.families.Family.{Family};
 
 use crate::backtracking::do_backtracking;
@@ -40,6 +41,7 @@ pub(crate) fn quiet_step(
     requires fits { InstrFits (length store.old.core.globals) (length store.old.core.now.own) what.now }
     requires serves { Serves declarations.now store.old }
     ensures did { (rest : List ℕ) → Quiet (modes_of declarations.now) (next_of (modes_of declarations.now) (plain_code store.old.code) line (plain_instr (variables store.old.core) what.now) (stood_for store.old.core control.old rest)) (stood_for store.new.core control.new rest) result }
+    ensures gained { (rest rest' : List ℕ) → Gains (modes_of declarations.now) (plain_code store.old.code) line (plain_instr (variables store.old.core) what.now) (stood_for store.old.core control.old rest) (stood_for store.new.core control.new rest') store.old.bases store.new.bases result }
     ensures code { result ≡ End.Paused → store.new.code ≡ store.old.code }
     ensures reader { control.new.reader ≡ control.old.reader }
 {
@@ -62,6 +64,7 @@ fn do_quiet(
     requires fits { InstrFits (length store.old.core.globals) (length store.old.core.now.own) what.now }
     requires serves { Serves declarations.now store.old }
     ensures did { IfOk result (λ end. DoesBy (modes_of declarations.now) store.old control.old line (plain_instr (variables store.old.core) what.now) store.new control.new end) }
+    ensures gained { (rest rest' : List ℕ) → IfOk result (λ end. Gains (modes_of declarations.now) (plain_code store.old.code) line (plain_instr (variables store.old.core) what.now) (stood_for store.old.core control.old rest) (stood_for store.new.core control.new rest') store.old.bases store.new.bases end) }
     ensures reader { control.new.reader ≡ control.old.reader }
 {
     match family_of(what) {

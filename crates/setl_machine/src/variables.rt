@@ -1,6 +1,6 @@
 //! Loads, stores and updates of variables.
 
-ghost use Rattle.std.specs.Prelude.{◌≡◌, length, map, IfOk};
+ghost use Rattle.std.specs.Prelude.{◌≡◌, length, map, IfOk, List, ℕ};
 ghost use Rattle.setl_code.specs.Code.{StoreIn, Alter};
 ghost use Rattle.setl_code.specs.CodeCore.{held};
 ghost use Rattle.setl_code.specs.MayRun.{HasSlot, CanAlter, InstrFits};
@@ -10,10 +10,11 @@ ghost use Rattle.setl_watch.specs.Notices.{noticed};
 ghost use Rattle.setl_watch.specs.code.NoticeOf.{notice_of};
 ghost use Rattle.setl_code_events.specs.Told.{value_held, store_told};
 ghost use Rattle.setl_store.specs.Standing.{variables, variables_in, CanGoOn};
-ghost use Rattle.setl_machine_control.specs.Control.{ControlState};
+ghost use Rattle.setl_machine_control.specs.Control.{stood_for, ControlState};
 ghost use Rattle.setl_machine_control.specs.Declaring.{modes_of, Serves};
 ghost use Rattle.setl_machine_control.specs.Working.{DoesBy};
 ghost use Rattle.setl_machine.specs.Hearing.{DoesTelling};
+ghost use Rattle.setl_machine.specs.Gaining.{Gains};
 ghost use Rattle.setl_machine.specs.Families.{family_of};
 ghost use Rattle.setl_machine.specs.declared.families.Family.{Family};
 
@@ -40,6 +41,7 @@ pub(crate) fn do_variable(
     requires fits { InstrFits (length store.old.core.globals) (length store.old.core.now.own) what.now }
     requires serves { Serves declarations.now store.old }
     ensures did { IfOk result (λ end. DoesBy (modes_of declarations.now) store.old control.old line (plain_instr (variables store.old.core) what.now) store.new control.new end) }
+    ensures gained { (rest rest' : List ℕ) → IfOk result (λ end. Gains (modes_of declarations.now) (plain_code store.old.code) line (plain_instr (variables store.old.core) what.now) (stood_for store.old.core control.old rest) (stood_for store.new.core control.new rest') store.old.bases store.new.bases end) }
     ensures reader { control.new.reader ≡ control.old.reader }
 {
     match what {

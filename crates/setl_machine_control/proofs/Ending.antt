@@ -1,6 +1,11 @@
 -- How an update ends.
-use Rattle.std.proofs.Common.{◌≡◌, ◌∙◌, ℕ, suc, ◌-◌, length, Option, Ok, refl, sym, ap, subst}
+use Rattle.std.proofs.Common.{◌≡◌, ◌∙◌, ℕ, suc, ◌-◌, List, [], length, Option, Some, None, Ok, refl, sym, ap, subst}
 use Rattle.setl_value.specs.Datum.{Datum}
+use Rattle.setl_modes.specs.Modes.{Mode}
+use Rattle.setl_model.specs.Entered.{Base}
+use Rattle.setl_operators_table.specs.declared.OpFault.{OpFault}
+use Rattle.setl_operators_table.specs.declared.OpFault.TheVariants as fault
+use Rattle.setl_store.specs.Gained.{with_places}
 use Rattle.setl_model_runs.specs.Variable.{Variable, Global, Own, Bound}
 use Rattle.setl_code.specs.declared.code.Slot.{Slot}
 use Rattle.setl_code.specs.MayRun.{HasSlot}
@@ -12,6 +17,9 @@ use Rattle.setl_machine_control.specs.Declaring.{Modes, IsDeclared}
 use Rattle.setl_machine_control.specs.Settling.{StoresWhole, EndsUpdate}
 use Rattle.setl_machine_control.specs.declared.declaration.Declaration.{Declaration}
 use Rattle.setl_machine_control.specs.declared.end.End.{End}
+use Rattle.setl_machine_control.specs.declared.end.End.TheVariants.{Done, Stopped, Spent, Paused, ReadFault, WriteFault, NoMemory, Stuck}
+use Rattle.setl_machine_control.specs.Gaining.{gained_by, BasesAre}
+use Rattle.setl_machine_control.specs.Working.{EndsBy}
 
 abbrev pub Has : Standing → Slot → Type 0
 Has s x = HasSlot (length s.core.globals) (length s.core.now.own) x
@@ -37,3 +45,33 @@ declared_moved modes old mid x d m is = subst (λ (t : Standing). IsDeclared mod
 
 pub slot_moved : (old mid : Standing) (x : Slot) → mid ≡ record old { core = at_place (suc old.core.now.at) old.core } → Has old x → Has mid x
 slot_moved old mid x m h = subst (λ (t : Standing). Has t x) (sym m) h
+
+-- ---- the bases
+
+-- where the code doesn't go on they are as before
+pub as_before : (to old new : List Base) (e : End) → (e ≡ Paused → ⊥) → new ≡ old → BasesAre to old new e
+as_before to old new Paused stays_not same = absurd (stays_not refl)
+as_before to old new Done stays_not same = same
+as_before to old new (Stopped why line) stays_not same = same
+as_before to old new Spent stays_not same = same
+as_before to old new ReadFault stays_not same = same
+as_before to old new WriteFault stays_not same = same
+as_before to old new NoMemory stays_not same = same
+as_before to old new Stuck stays_not same = same
+
+-- a fault of an operator doesn't go on
+pub ends_by_fault : (f : OpFault) (line : ℕ) (to old new : List Base) (e : End) → EndsBy f line e → new ≡ old → BasesAre to old new e
+ends_by_fault fault.Kind line to old new e h same = rw h same
+ends_by_fault fault.Om line to old new e h same = rw h same
+ends_by_fault fault.Wide line to old new e h same = rw h same
+ends_by_fault fault.Zero line to old new e h same = rw h same
+ends_by_fault fault.Range line to old new e h same = rw h same
+ends_by_fault fault.Deep line to old new e h same = rw h same
+ends_by_fault fault.Spent line to old new e h same = rw h same
+ends_by_fault fault.NoMemory line to old new e h same = absurd h
+
+-- where none is told none gains anything
+pub none_gain : (m : Option Mode) (v : Option Datum) (bs : List Base) → bs ≡ [] → bs ≡ gained_by m v bs
+none_gain None v bs none = refl
+none_gain (Some m) None bs none = refl
+none_gain (Some m) (Some d) bs none = none ∙ sym (ap (with_places 0 m d) none)

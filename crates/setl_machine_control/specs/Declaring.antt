@@ -1,5 +1,6 @@
 -- Declared variables, and how they are tested.
 use Rattle.std.specs.Prelude.{◌≡◌, ℕ, zero, suc, true, false, List, [], ◌∷◌, map, cond, slice_get, Option, Some, None, IfSome}
+use Rattle.std.specs.Option.{option_map}
 use Rattle.setl_value.specs.Datum.{Datum}
 use Rattle.setl_modes.specs.Modes.{Mode, mode_of}
 use Rattle.setl_model_runs.specs.Run.{Test}
@@ -74,6 +75,10 @@ pub record Serves (d : DeclarationTable) (s : Standing) : Type 0 where
 abbrev pub Tests : Modes → Variable → Option Datum → Option ℕ → Type 0
 Tests modes x v None = tested modes x v ≡ true
 Tests modes x v (Some k) = (tested modes x v ≡ false) × (declared_at modes k ≡ x) × IsOfMain x
+
+-- the mode of a declaration, where there is one
+abbrev pub mode_by : Option Declaration → Option Mode
+mode_by d = option_map (λ (d : Declaration). mode_of d.mode.now) d
 
 -- it is the declaration of this variable, if it has one
 abbrev pub IsDeclared : Modes → Variable → Option Declaration → Type 0

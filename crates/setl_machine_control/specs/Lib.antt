@@ -5,3 +5,4 @@ pub mod Working
 pub mod Reading
 pub mod Settling
 pub mod Laws
+pub mod Gaining

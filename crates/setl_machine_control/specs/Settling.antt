@@ -19,16 +19,16 @@ Settles modes line x whole kept holds end.Paused = (holds ≡ whole) × ((kept �
 Settles modes line x whole kept holds (end.Stopped (kind.Unfit k) at) = (at ≡ line) × (kept ≡ Some holds) × Tests modes x whole (Some k)
 Settles modes line x whole kept holds e = ⊥
 
--- the variable holds that now
+-- the variable holds that now, and all is as before but for the bases
 abbrev pub StoresWhole : Modes → ℕ → Variable → (whole : Option Datum) → (kept : Option (Option Datum)) → Standing → Standing → End → Type 0
-StoresWhole modes line x whole kept old new e = (holds : Option Datum) × Settles modes line x whole kept holds e × (new ≡ record old { core = write x (There holds) old.core })
+StoresWhole modes line x whole kept old new e = (holds : Option Datum) × Settles modes line x whole kept holds e × (record new { bases = old.bases } ≡ record old { core = write x (There holds) old.core })
 
--- the variable holds that now, and the code is at the next step with the turns that an update left; or its fault ends the
--- run
+-- the variable holds that now, and the code is at the next step with the turns that an update left, and all is as before but for
+-- the bases; or its fault ends the run
 abbrev pub EndsUpdate : Modes → Result ℕ OpFault → ℕ → Variable → (whole : Option Datum) → (kept : Option (Option Datum)) → Standing → ControlState → Standing → ControlState → End → Type 0
 EndsUpdate modes (Ok left) line x whole kept old from new to e =
     (holds : Option Datum)
     × Settles modes line x whole kept holds e
-    × (new ≡ record old { core = at_place (suc old.core.now.at) (write x (There holds) old.core) })
+    × (record new { bases = old.bases } ≡ record old { core = at_place (suc old.core.now.at) (write x (There holds) old.core) })
     × (to ≡ record from { turns = from.turns - (from.turns - left) })
 EndsUpdate modes (Err f) line x whole kept old from new to e = EndsBy f line e × (new ≡ record old { core = write x (There whole) old.core }) × (to ≡ from)

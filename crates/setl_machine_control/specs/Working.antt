@@ -18,13 +18,25 @@ use Rattle.setl_machine_control.specs.declared.end.End.{End}
 use Rattle.setl_machine_control.specs.declared.end.End.TheVariants as end
 use Rattle.setl_machine_control.specs.declared.end.StopKind.TheVariants as kind
 
--- one that stores nothing and neither reads nor writes nor changes the control: whatever is declared and the world is
-abbrev pub Works : Standing → ℕ → Instr → Standing → End → Type 0
-Works old line what new e = (new.code ≡ old.code) × ((modes : Modes) (w : World) → Quiet modes (next_of modes (plain_code old.code) line what (in_world w old.core)) (in_world w new.core) e)
+-- one that neither stores nor reads nor writes nor changes the control, but for the bases: whatever is declared and the world is
+abbrev pub WorksApart : Standing → ℕ → Instr → Standing → End → Type 0
+WorksApart old line what new e = (new.code ≡ old.code) × ((modes : Modes) (w : World) → Quiet modes (next_of modes (plain_code old.code) line what (in_world w old.core)) (in_world w new.core) e)
 
--- one that stores nothing and neither reads nor writes: whatever is declared and is still to come from the input
+-- one that neither stores nor reads nor writes, but for the bases: whatever is declared and is still to come from the input
+abbrev pub DoesApart : Standing → ControlState → ℕ → Instr → Standing → ControlState → End → Type 0
+DoesApart old from line what new to e =
+    (new.code ≡ old.code) × ((modes : Modes) (rest : List ℕ) → Quiet modes (next_of modes (plain_code old.code) line what (stood_for old.core from rest)) (stood_for new.core to rest) e)
+
+-- the same of one that leaves the bases as they are
+abbrev pub Works : Standing → ℕ → Instr → Standing → End → Type 0
+Works old line what new e =
+    (new.code ≡ old.code) × ((modes : Modes) (w : World) → Quiet modes (next_of modes (plain_code old.code) line what (in_world w old.core)) (in_world w new.core) e) × (new.bases ≡ old.bases)
+
 abbrev pub Does : Standing → ControlState → ℕ → Instr → Standing → ControlState → End → Type 0
-Does old from line what new to e = (new.code ≡ old.code) × ((modes : Modes) (rest : List ℕ) → Quiet modes (next_of modes (plain_code old.code) line what (stood_for old.core from rest)) (stood_for new.core to rest) e)
+Does old from line what new to e =
+    (new.code ≡ old.code)
+    × ((modes : Modes) (rest : List ℕ) → Quiet modes (next_of modes (plain_code old.code) line what (stood_for old.core from rest)) (stood_for new.core to rest) e)
+    × (new.bases ≡ old.bases)
 
 -- one that neither reads nor writes nor changes the control, where these declarations count: whatever the world is
 abbrev pub WorksBy : Modes → Standing → ℕ → Instr → Standing → End → Type 0

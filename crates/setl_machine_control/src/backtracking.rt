@@ -2,7 +2,9 @@
 
 ghost use Rattle.std.specs.Prelude.{◌≡◌, ℕ, IfOk, IsOk};
 ghost use Rattle.setl_code.specs.Code.{KeepAll, GoBack, ForgetKept};
-ghost use Rattle.setl_machine_control.specs.Working.{Works, Does};
+ghost use Rattle.setl_machine_control.specs.Gaining.{BasesAre};
+ghost use Rattle.setl_machine_control.specs.Working.{WorksApart, DoesApart};
+ghost use Rattle.setl_store.specs.Gained.{with_kept, cut_to_kept, without_kept};
 ghost use Rattle.setl_store.specs.Standing.{CanGoOn};
 
 use crate::control::Control;
@@ -14,7 +16,8 @@ use std::alloc::AllocError;
 #[inline(never)]
 pub fn keep(store: &mut Store<'_>) -> Result<End, AllocError>
     requires { CanGoOn store.old }
-    ensures { (line : ℕ) → IfOk result (λ end. Works store.old line KeepAll store.new end) }
+    ensures did { (line : ℕ) → IfOk result (λ end. WorksApart store.old line KeepAll store.new end) }
+    ensures gained { IfOk result (BasesAre (with_kept store.old.bases) store.old.bases store.new.bases) }
 {
     store.keep()?;
     Ok(End::Paused)
@@ -23,7 +26,8 @@ pub fn keep(store: &mut Store<'_>) -> Result<End, AllocError>
 /// `fail`: takes one turn and brings back what was kept last; where nothing is, the run stops at this line. No error comes.
 #[inline(never)]
 pub fn back(line: u32, store: &mut Store<'_>, control: &mut Control) -> Result<End, AllocError>
-    ensures did { IfOk result (λ end. Does store.old control.old line GoBack store.new control.new end) }
+    ensures did { IfOk result (λ end. DoesApart store.old control.old line GoBack store.new control.new end) }
+    ensures gained { IfOk result (BasesAre (cut_to_kept store.old.bases) store.old.bases store.new.bases) }
     ensures reader { control.new.reader ≡ control.old.reader }
     ensures sure { IsOk result }
 {
@@ -45,7 +49,8 @@ pub fn back(line: u32, store: &mut Store<'_>, control: &mut Control) -> Result<E
 #[inline(never)]
 pub fn forget(line: u32, store: &mut Store<'_>) -> Result<End, AllocError>
     requires { CanGoOn store.old }
-    ensures did { IfOk result (λ end. Works store.old line ForgetKept store.new end) }
+    ensures did { IfOk result (λ end. WorksApart store.old line ForgetKept store.new end) }
+    ensures gained { IfOk result (BasesAre (without_kept store.old.bases) store.old.bases store.new.bases) }
     ensures sure { IsOk result }
 {
     if store.forget() {

@@ -130,7 +130,7 @@ pub record InHand (old : Standing) (slot : Slot) (xs : List Operand) (v : Option
 abbrev pub Has : Standing → Slot → Type 0
 Has s x = HasSlot (length s.core.globals) (length s.core.now.own) x
 
-same_variables : (old : Standing) (x : Slot) (xs : List Operand) (v : Option Datum) (gone : Standing) → InHand old x xs v gone → variables gone.core ≡ variables old.core
+pub same_variables : (old : Standing) (x : Slot) (xs : List Operand) (v : Option Datum) (gone : Standing) → InHand old x xs v gone → variables gone.core ≡ variables old.core
 same_variables old x xs v gone h = ap (λ (s : Standing). variables s.core) h.is ∙ variables_kept (plain_slot (variables old.core) x) (There v) Gone (over xs old.core) h.again
 
 pub still_there : (old : Standing) (x : Slot) (xs : List Operand) (v : Option Datum) (gone : Standing) → InHand old x xs v gone → Has old x → Has gone x
@@ -158,7 +158,7 @@ pushed old x xs ys v gone new h n =
     }
 
 -- the declaration is that of the variable whose value is in hand
-declared_in_hand : (modes : Modes) (old : Standing) (x : Slot) (xs : List Operand) (v : Option Datum) (gone : Standing) (d : Option Declaration) → InHand old x xs v gone → IsDeclared modes (plain_slot (variables old.core) x) d → IsDeclared modes (plain_slot (variables gone.core) x) d
+pub declared_in_hand : (modes : Modes) (old : Standing) (x : Slot) (xs : List Operand) (v : Option Datum) (gone : Standing) (d : Option Declaration) → InHand old x xs v gone → IsDeclared modes (plain_slot (variables old.core) x) d → IsDeclared modes (plain_slot (variables gone.core) x) d
 declared_in_hand modes old x xs v gone d h is = subst (λ vs. IsDeclared modes (plain_slot vs x) d) (sym (same_variables old x xs v gone h)) is
 
 pub declared_here : (modes : Modes) (old mid gone : Standing) (x : Slot) (v w : Option Value) (d : Option Declaration) → PopsTop old (Some v) mid → TakesHeld (plain_slot (variables mid.core) x) mid (Some w) gone → IsDeclared modes (plain_slot (variables old.core) x) d → IsDeclared modes (plain_slot (variables gone.core) x) d

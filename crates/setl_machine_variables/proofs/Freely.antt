@@ -1,6 +1,6 @@
 -- Updates in place that charge nothing.
 use Rattle.std.proofs.Common.{◌≡◌, ◌∙◌, ℕ, suc, ◌-◌, true, List, [], ◌∷◌, drop, Option, None, Some, refl, sym, ap, subst, arith}
-use Rattle.std.specs.Prelude.{IsSome, IfSome, map, length}
+use Rattle.std.specs.Prelude.{IsSome, map, length}
 use Rattle.std.specs.Borrow.{Bor}
 use Rattle.setl_value.specs.Datum.{Datum}
 use Rattle.setl_value.specs.code.DatumOf.{datum}

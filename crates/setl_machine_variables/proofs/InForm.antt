@@ -1,5 +1,5 @@
 -- Variables that hold forms.
-use Rattle.std.proofs.Common.{◌≡◌, ◌∙◌, ℕ, suc, true, List, [], ◌∷◌, drop, Option, None, Some, refl, sym, ap, subst}
+use Rattle.std.proofs.Common.{◌≡◌, ◌∙◌, ℕ, suc, true, List, [], ◌∷◌, drop, Option, Some, refl, sym, ap, subst}
 use Rattle.std.specs.Prelude.{IsSome}
 use Rattle.setl_value.specs.Datum.{Datum}
 use Rattle.setl_modes.specs.Modes.{Mode}
@@ -7,7 +7,8 @@ use Rattle.setl_modes.specs.Fits.{is_taken}
 use Rattle.setl_modes_parts.specs.Parts.{combines}
 use Rattle.setl_modes_parts.specs.Laws.{CombinedFit}
 use Rattle.setl_operators_table.specs.declared.Operator.{Operator}
-use Rattle.setl_operators_table.specs.Outcome.{Outcome}
+use Rattle.setl_operators_table.specs.Outcome.{Outcome, Gives}
+use Rattle.setl_value.specs.WellFormed.{PartIsWellFormed}
 use Rattle.setl_operators_table.specs.Operators.{op_of}
 use Rattle.setl_model_runs.specs.Run.{settle}
 use Rattle.setl_model_runs.specs.Variable.{Variable, Global, Own, Bound}
@@ -22,15 +23,17 @@ use Rattle.setl_code_declared.specs.Laws.{HeldFits}
 use Rattle.setl_store.specs.Forms.{UpdatesFreely}
 use Rattle.setl_store.specs.Operands.{IsThere}
 use Rattle.setl_store.specs.Standing.{Standing, over, at_place, top_of, variables, with_pushed}
-use Rattle.setl_machine_control.specs.Declaring.{Modes, tested, IsDeclared}
+use Rattle.setl_machine_control.specs.Declaring.{mode_by, Modes, tested, IsDeclared}
 use Rattle.setl_machine_control.specs.Answers.{start, Quiet}
 use Rattle.setl_machine_control.specs.Control.{in_world}
 use Rattle.setl_machine_control.specs.Working.{Works, WorksBy}
 use Rattle.setl_machine_control.specs.declared.declaration.Declaration.{Declaration}
 use Rattle.setl_machine_control.specs.declared.end.End.TheVariants as end
-use Rattle.setl_machine_variables.specs.Deciding.{mode_by}
+use Rattle.setl_store.specs.Gained.{with_part}
+use Rattle.setl_machine_variables.specs.Gaining.{stores_at, GainsIf}
 use Rattle.setl_machine_variables.proofs.Altered.{held_in_world}
 use Rattle.setl_machine_variables.proofs.Freely.{combined_freely}
+use Rattle.setl_machine_variables.proofs.Gaining.{stored_by}
 use Rattle.setl_machine_variables.proofs.Parts.{mode_is}
 use Rattle.setl_machine_variables.proofs.Storing.{at_written}
 
@@ -50,19 +53,25 @@ over_written (Global name) h xs k = refl
 over_written (Own body name) h xs k = refl
 over_written (Bound former name) h xs k = refl
 
+-- what an update in place makes of a variable, but for the bases
+abbrev pub UpdatesAlone : (gives : Option Datum → ℕ → Outcome) → Variable → Standing → Standing → Type 0
+UpdatesAlone gives x old new =
+    (before after : Option Datum) × (held x old.core ≡ There before) × PartIsWellFormed before × ((left : ℕ) → gives before left ≡ Gives after 0)
+    × (new ≡ record old { core = write x (There after) old.core })
+
 -- the same given in other words
-pub given_alike : (gives also : Option Datum → ℕ → Outcome) (x : Variable) (old put : Standing) → ((whole : Option Datum) → gives whole ≡ also whole) → UpdatesFreely gives x old put true → UpdatesFreely also x old put true
-given_alike gives also x old put same u = (u.0, u.1, u.2, u.3, λ left. sym (ap (λ g. g left) (same u.0)) ∙ u.4 left, u.5)
+pub given_alike : (gives also : Option Datum → ℕ → Outcome) (x : Variable) (old put : Standing) → ((whole : Option Datum) → gives whole ≡ also whole) → (m : Mode) → UpdatesFreely gives m x old put true → UpdatesAlone also x old (record put { bases = old.bases })
+given_alike gives also x old put same m u = (u.0, u.1, u.2, u.3, λ left. sym (ap (λ g. g left) (same u.0)) ∙ u.4 left, ap (λ (s : Standing). record s { bases = old.bases }) u.5)
 
 -- the value is still on top
-pub still_on_top : (o : Operator) (old put : Standing) (x : Variable) (d : Datum) → UpdatesFreely (λ s. op_of o (s ∷ Some d ∷ [])) x old put true → old.core.now.operands ≡ Holds (Some d) ∷ drop 1 old.core.now.operands → IsSome (top_of put.core.now.operands)
+pub still_on_top : (o : Operator) (old put : Standing) (x : Variable) (d : Datum) → UpdatesAlone (λ s. op_of o (s ∷ Some d ∷ [])) x old put → old.core.now.operands ≡ Holds (Some d) ∷ drop 1 old.core.now.operands → IsSome (top_of put.core.now.operands)
 still_on_top o old put x d u top =
     subst (λ xs. IsSome (top_of xs)) (sym (ap (λ (s : Standing). s.core.now.operands) u.5 ∙ operands_written x (There u.1) old.core ∙ top)) refl
 
 -- the variable was updated, and the value dropped
 pub combined_in_form : CombinedFit → HeldFits → (modes : Modes) (old put dropped new : Standing) (line : ℕ) (x : Variable) (m : Mode) (o : Operator) (what : Alteration) (bs : List Bracket) (d : Datum) → Fitting modes old.core →
     what ≡ Combining o → bs ≡ [] → declared_mode modes x ≡ Some m → combines o m (Some d) ≡ true → old.core.now.operands ≡ Holds (Some d) ∷ drop 1 old.core.now.operands →
-    UpdatesFreely (λ s. op_of o (s ∷ Some d ∷ [])) x old put true → dropped ≡ record put { core = over (drop 1 put.core.now.operands) put.core } →
+    UpdatesAlone (λ s. op_of o (s ∷ Some d ∷ [])) x old put → dropped ≡ record put { core = over (drop 1 put.core.now.operands) put.core } →
     new ≡ record dropped { core = at_place (suc dropped.core.now.at) dropped.core } → WorksBy modes old line (Alter what x bs) new end.Paused
 combined_in_form fit holds modes old put dropped new line x m o what bs d fitting is none declared sure top u off goes =
     let before = u.0 in
@@ -103,6 +112,7 @@ loaded old put new line x there pushed goes = go (held x old.core) refl there pu
               let does : do_instr c line (Load x) k ≡ next (Holds v ∷ k.now.operands) k = ap (λ h. on_held h (λ u. next (Holds u ∷ k.now.operands) k)) (held_in_world x w old.core.now.operands old.core ∙ was) in
               subst (λ m. Quiet modes (settle (machine c) (tested modes) (start k) m) (in_world w new.core) end.Paused) (sym does)
               (sym (ap (λ (s : Standing). in_world w s.core) new_is), refl),
+          ap (λ (s : Standing). s.bases) new_is,
         )
 
 -- what the variable holds is pushed, where nothing became of the store before
@@ -117,3 +127,17 @@ loaded_plain old mid put new line slot v same was pushed goes =
 pub at_pushed : (h : Held) (k : CodeCore) → (with_pushed h k).now.at ≡ k.now.at
 at_pushed Gone k = refl
 at_pushed (There v) k = refl
+
+-- the bases after an update in place
+pub form_gains : (modes : Modes) (gives : Option Datum → ℕ → Outcome) (old put dropped new : Standing) (x : Variable) (m : Mode) (what : Alteration) (o : Operator) (bs : List Bracket) (turns : ℕ) → declared_mode modes x ≡ Some m → what ≡ Combining o →
+    UpdatesFreely gives m x old put true → dropped ≡ record put { core = over (drop 1 put.core.now.operands) put.core } → new ≡ record dropped { core = at_place (suc dropped.core.now.at) dropped.core } →
+    GainsIf (stores_at what x bs old.core turns) modes x old new end.Paused
+form_gains modes gives old put dropped new x m what o bs turns declared is u off goes =
+    let ys = drop 1 put.core.now.operands in
+    let put_core : put.core ≡ write x (There u.1) old.core = ap (λ (s : Standing). s.core) u.5 in
+    let new_core : new.core ≡ at_place (suc dropped.core.now.at) (write x (There u.1) (over ys old.core)) =
+    ap (λ (s : Standing). s.core) goes
+    ∙ ap (at_place (suc dropped.core.now.at)) (ap (λ (s : Standing). s.core) off ∙ ap (over ys) put_core ∙ over_written x (There u.1) ys old.core) in
+    let bases : new.bases ≡ with_part m u.1 old.bases = ap (λ (s : Standing). s.bases) goes ∙ ap (λ (s : Standing). s.bases) off ∙ ap (λ (s : Standing). s.bases) u.5 in
+    let gain = stored_by modes x (Some m) old new u.1 (over ys old.core) (suc dropped.core.now.at) declared new_core bases in
+    subst (λ a. GainsIf (stores_at a x bs old.core turns) modes x old new end.Paused) (sym is) gain

@@ -7,3 +7,4 @@ pub mod Finding
 pub mod Freely
 pub mod InForm
 pub mod Members
+pub mod Gaining

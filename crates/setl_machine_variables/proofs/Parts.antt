@@ -29,11 +29,11 @@ use Rattle.setl_store.specs.Standing.{Standing, over, variables}
 use Rattle.setl_machine_updates.specs.Takes.{TakesPart, TakesFrom, Takes}
 use Rattle.setl_machine_updates.specs.Updates.{Leaves, Updates}
 use Rattle.setl_machine_updates.specs.declared.taking.TakenOut.{TakenOut}
-use Rattle.setl_machine_control.specs.Declaring.{Modes, tested, IsDeclared}
+use Rattle.setl_machine_control.specs.Declaring.{mode_by, Modes, tested, IsDeclared}
 use Rattle.setl_machine_control.specs.Working.{PopsTop}
 use Rattle.setl_machine_control.specs.declared.declaration.Declaration.{Declaration}
 use Rattle.setl_machine_variables.specs.Altered.{TakesHeld}
-use Rattle.setl_machine_variables.specs.Deciding.{mode_by, mode_at, part_mode, passes, decides_put, decides_combined, decides_taken, PartLaws}
+use Rattle.setl_machine_variables.specs.Deciding.{mode_at, part_mode, passes, decides_put, decides_combined, decides_taken, PartLaws}
 use Rattle.setl_machine_variables.proofs.Altered.{InHand, taken_held, parts_refused}
 
 -- ---- what is given

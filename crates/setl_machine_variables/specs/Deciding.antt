@@ -1,18 +1,12 @@
 -- Which updates of a variable keep that it holds what its declaration takes, as the new part alone tells.
 use Rattle.std.specs.Prelude.{Bool, true, false, List, [], ◌∷◌, Option, Some, None, option_and_then}
-use Rattle.std.specs.Option.{option_map}
 use Rattle.setl_value.specs.Datum.{Datum}
-use Rattle.setl_modes.specs.Modes.{Mode, mode_of}
+use Rattle.setl_modes.specs.Modes.{Mode}
 use Rattle.setl_modes.specs.Fits.{fits}
 use Rattle.setl_modes_parts.specs.Parts.{value_mode, images_mode, combines}
 use Rattle.setl_modes_parts.specs.Laws.{ValuesFit, ImagesFit, PutsFit, SetPutsFit, CombinedFit, LeastTakenFits, FirstTakenFits, LastTakenFits}
 use Rattle.setl_model.specs.Core.{Selected, Round, Brace}
 use Rattle.setl_operators_table.specs.declared.Operator.{Operator}
-use Rattle.setl_machine_control.specs.declared.declaration.Declaration.{Declaration}
-
--- the mode of a declaration, where there is one
-abbrev pub mode_by : Option Declaration → Option Mode
-mode_by d = option_map (λ (d : Declaration). mode_of d.mode.now) d
 
 -- the mode of the part at a selector, and at several, the outermost first; None where the selectors alone don't tell it
 abbrev pub mode_at : Mode → Selected → Option Mode

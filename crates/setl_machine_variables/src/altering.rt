@@ -1,6 +1,6 @@
 //! Updates of variables in place.
 
-ghost use Rattle.std.specs.Prelude.{◌≡◌, ◌≤◌, ◌∷◌, [], Some, None, cond, map, option_map, length, IfOk};
+ghost use Rattle.std.specs.Prelude.{◌≡◌, ◌≤◌, ◌∷◌, [], true, Some, None, cond, map, option_map, length, IfOk};
 ghost use Rattle.setl_code.specs.Code.{Alter, Putting, Combining, TakingOut};
 ghost use Rattle.setl_code.specs.CodeCore.{held, popped};
 ghost use Rattle.setl_code.specs.Machine.{selected_by};
@@ -16,6 +16,7 @@ ghost use Rattle.setl_machine_control.specs.Declaring.{Modes, modes_of, Serves, 
 ghost use Rattle.setl_machine_control.specs.Working.{DoesBy};
 ghost use Rattle.setl_machine_control.specs.declared.end.End.{End};
 ghost use Rattle.setl_machine_variables.specs.Altered.{Alters, TakesHeld, stores_new};
+ghost use Rattle.setl_machine_variables.specs.Gaining.{GainsIf};
 
 use crate::deciding::{decides_combined, decides_put, decides_taken, kept_unless, learn_laws};
 use crate::declarations::Declarations;
@@ -52,6 +53,7 @@ pub fn alter(
     requires serves { Serves declarations.now store.old }
     ensures did { IfOk result (λ updated. DoesBy (modes_of declarations.now) store.old control.old line (Alter (plain_alteration what) (plain_slot (variables store.old.core) slot) (map plain_bracket brackets.now)) store.new control.new updated.end) }
     ensures stored { IfOk result (λ updated. updated.end ≡ End.Paused → updated.stored ≡ stores_new (plain_alteration what) (value_held (held (plain_slot (variables store.old.core) slot) store.old.core)) (selected_by (map plain_bracket brackets.now) (popped_values (popped (length (map plain_bracket brackets.now)) [] store.old.core.now.operands))) control.old.turns) }
+    ensures gained { IfOk result (λ updated. GainsIf updated.stored (modes_of declarations.now) (plain_slot (variables store.old.core) slot) store.old store.new updated.end) }
     ensures reader { control.new.reader ≡ control.old.reader }
 {
     let declared = declarations.of_slot(slot, store);
@@ -87,6 +89,7 @@ fn put(
     requires few { CanGoOn store.old }
     requires there { HasSlot (length store.old.core.globals) (length store.old.core.now.own) target.slot }
     ensures did { (modes : Modes) → IsDeclared modes (plain_slot (variables store.old.core) target.entry.slot) target.entry.declared → Fitting modes store.old.core → IfOk result (λ end. Alters modes store.old control.old line Putting (plain_slot (variables store.old.core) target.entry.slot) (map selected at.now) store.new control.new end) }
+    ensures gained { (modes : Modes) → IsDeclared modes (plain_slot (variables store.old.core) target.entry.slot) target.entry.declared → IfOk result (GainsIf true modes (plain_slot (variables store.old.core) target.entry.slot) store.old store.new) }
     ensures reader { control.new.reader ≡ control.old.reader }
 {
     let Some(value) = pop_top(store)? else {
@@ -99,7 +102,7 @@ fn put(
     let sure = decides_put(target.declared, at, &value);
     let kept = kept_unless(sure, &whole)?;
     let left = put_at(control.alloc(), &mut whole, at, value, control.turns());
-    end_update(left, whole, kept, target, line, store, control)
+    end_update(left, whole, kept, true, target, line, store, control)
 }
 
 /// Pops a value and combines the part of a variable with it.
@@ -115,6 +118,7 @@ fn combine(
     requires there { HasSlot (length store.old.core.globals) (length store.old.core.now.own) target.slot }
     requires two { operand_count by ≡ Some 2 }
     ensures did { (modes : Modes) → IsDeclared modes (plain_slot (variables store.old.core) target.entry.slot) target.entry.declared → Fitting modes store.old.core → IfOk result (λ end. Alters modes store.old control.old line (Combining by) (plain_slot (variables store.old.core) target.entry.slot) (map selected at.now) store.new control.new end) }
+    ensures gained { (modes : Modes) → IsDeclared modes (plain_slot (variables store.old.core) target.entry.slot) target.entry.declared → IfOk result (GainsIf true modes (plain_slot (variables store.old.core) target.entry.slot) store.old store.new) }
     ensures reader { control.new.reader ≡ control.old.reader }
 {
     let Some(value) = pop_top(store)? else {
@@ -127,7 +131,7 @@ fn combine(
     let sure = decides_combined(by, target.declared, at, &value);
     let kept = kept_unless(sure, &whole)?;
     let left = combine_at(control.alloc(), by, &mut whole, at, value, control.turns());
-    end_update(left, whole, kept, target, line, store, control)
+    end_update(left, whole, kept, true, target, line, store, control)
 }
 
 /// Takes a value out of the part of a variable, and pushes it; of an empty part `om` is pushed, and nothing is tested.
@@ -143,6 +147,7 @@ fn take_out(
     requires there { HasSlot (length store.old.core.globals) (length store.old.core.now.own) target.slot }
     ensures did { (modes : Modes) → IsDeclared modes (plain_slot (variables store.old.core) target.entry.slot) target.entry.declared → Fitting modes store.old.core → IfOk result (λ updated. Alters modes store.old control.old line (TakingOut end) (plain_slot (variables store.old.core) target.entry.slot) (map selected at.now) store.new control.new updated.end) }
     ensures stored { (modes : Modes) → IsDeclared modes (plain_slot (variables store.old.core) target.entry.slot) target.entry.declared → IfOk result (λ updated. updated.end ≡ End.Paused → updated.stored ≡ stores_new (TakingOut end) (value_held (held (plain_slot (variables store.old.core) target.entry.slot) store.old.core)) (map selected at.now) control.old.turns) }
+    ensures gained { (modes : Modes) → IsDeclared modes (plain_slot (variables store.old.core) target.entry.slot) target.entry.declared → IfOk result (λ updated. GainsIf updated.stored modes (plain_slot (variables store.old.core) target.entry.slot) store.old store.new updated.end) }
     ensures reader { control.new.reader ≡ control.old.reader }
 {
     let Some(mut whole) = take_held(target.slot, store)? else {
@@ -158,14 +163,23 @@ fn take_out(
         Ok(taken) => {
             store.push(taken.value)?;
             let tested = tested_if(taken.stored, kept);
-            let end = end_update(Ok(taken.left), whole, tested, target, line, store, control)?;
+            let end = end_update(
+                Ok(taken.left),
+                whole,
+                tested,
+                taken.stored,
+                target,
+                line,
+                store,
+                control,
+            )?;
             Ok(Updated {
                 end,
                 stored: taken.stored,
             })
         }
         Err(fault) => {
-            let end = end_update(Err(fault), whole, kept, target, line, store, control)?;
+            let end = end_update(Err(fault), whole, kept, false, target, line, store, control)?;
             Ok(Updated { end, stored: false })
         }
     }

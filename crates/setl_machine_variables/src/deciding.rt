@@ -4,7 +4,8 @@ ghost use Rattle.std.specs.Prelude.{◌≡◌, true, map, Option, Some, option_m
 ghost use Rattle.setl_code_declared.specs.Laws.{HeldFits};
 ghost use Rattle.setl_machine_control.specs.Declaring.{Modes, tested, Keeps};
 ghost use Rattle.setl_machine_updates.specs.Selectors.{selected};
-ghost use Rattle.setl_machine_variables.specs.Deciding.{mode_by, mode_at, part_mode, decides_put, decides_combined, decides_taken, PartLaws};
+ghost use Rattle.setl_machine_control.specs.Declaring.{mode_by};
+ghost use Rattle.setl_machine_variables.specs.Deciding.{mode_at, part_mode, decides_put, decides_combined, decides_taken, PartLaws};
 ghost use Rattle.setl_model_runs.specs.Variable.{Variable};
 ghost use Rattle.setl_modes.specs.Fits.{datum_fits, is_taken};
 ghost use Rattle.setl_modes.specs.Modes.{mode_of};

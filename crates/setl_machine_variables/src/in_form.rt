@@ -4,7 +4,7 @@
 //! is done to it that has no kernel for forms: then the variable goes on with the plain value. So what is converted costs no more
 //! than what was put in before.
 
-ghost use Rattle.std.specs.Prelude.{◌≡◌, ◌∷◌, ℕ, true, [], length, map, Option, Some, IfOk, IfSome};
+ghost use Rattle.std.specs.Prelude.{◌≡◌, ◌∷◌, ℕ, true, false, [], length, map, Option, Some, IfOk, IfSome};
 ghost use Rattle.setl_code.specs.Code.{Load, Alter, Combining};
 ghost use Rattle.setl_model.specs.Step.{declared_mode};
 ghost use Rattle.setl_operators_table.specs.Operators.{op_of};
@@ -12,9 +12,11 @@ ghost use Rattle.setl_rep_updates.specs.Changed.{given_by};
 ghost use Rattle.setl_code.specs.CodeCore.{There, held, write};
 ghost use Rattle.setl_code.specs.MayRun.{HasSlot};
 ghost use Rattle.setl_code.specs.Plain.{plain_slot, plain_bracket, plain_alteration};
-ghost use Rattle.setl_machine_control.specs.Declaring.{modes_of, Serves};
+ghost use Rattle.setl_machine_control.specs.Declaring.{mode_by, modes_of, Serves};
+ghost use Rattle.setl_machine_control.specs.Gaining.{gained_by};
 ghost use Rattle.setl_machine_control.specs.Working.{Works};
-ghost use Rattle.setl_machine_variables.specs.Deciding.{mode_by};
+ghost use Rattle.setl_machine_control.specs.declared.end.End.{End};
+ghost use Rattle.setl_machine_variables.specs.Gaining.{stores_at, GainsIf};
 ghost use Rattle.setl_machine_variables.specs.Freely.{WorksOrLeaves};
 ghost use Rattle.setl_modes.specs.Fits.{is_taken};
 ghost use Rattle.setl_modes.specs.Modes.{mode_of};
@@ -35,8 +37,8 @@ use setl_store::{Content, Store};
 use setl_value::Value;
 use std::alloc::AllocError;
 
-/// Stores a value, or `om`, that its declaration takes in a variable's slot: the empty set in its form, where it is declared so. The
-/// error is want of memory, and then all is as before.
+/// Stores a value, or `om`, that its declaration takes in a variable's slot: in its form, where the store tells its bases, and else
+/// the empty set alone where it is declared so. The error is want of memory, and then all is as before.
 pub(crate) fn put(
     slot: Slot,
     declared: Option<Declaration<'_>>,
@@ -45,18 +47,34 @@ pub(crate) fn put(
 ) -> Result<(), AllocError>
     requires there { HasSlot (length store.old.core.globals) (length store.old.core.now.own) slot }
     requires fits { is_taken (mode_by declared) (part value) ≡ true }
-    ensures { Becomes result store.old store.new (record store.old { core = write (plain_slot (variables store.old.core) slot) (There (part value)) store.old.core }) }
+    ensures { Becomes result store.old store.new (record store.old { core = write (plain_slot (variables store.old.core) slot) (There (part value)) store.old.core; bases = gained_by (mode_by declared.entry) (part value) store.old.bases }) }
 {
-    let Some(mode) = form_of(declared) else {
+    let Some(declaration) = declared else {
         return store.set_slot(slot, value);
     };
     let Some(value) = value else {
         return store.set_slot(slot, None);
     };
-    if !is_empty(&value) {
-        return store.set_slot(slot, Some(value));
+    if store.tells() || begins_so(declaration.mode, &value) {
+        return store.assign(slot, declaration.mode, value);
     }
-    store.assign(slot, mode, value)
+    store.set_slot(slot, Some(value))
+}
+
+/// Whether a store into a variable enters values into bases that the store tells. It takes no memory.
+#[inline(always)]
+pub(crate) fn enters(declared: Option<Declaration<'_>>, store: &Store<'_>) -> bool
+    ensures { result ≡ false → (v : Option Datum) → gained_by (mode_by declared.entry) v store.now.bases ≡ store.now.bases }
+{
+    match declared {
+        None => false,
+        Some(_) => store.tells(),
+    }
+}
+
+// Whether a value is held in the form of a mode from the first on.
+fn begins_so(mode: &Mode, value: &Value) -> bool {
+    is_held_so(mode) && is_empty(value)
 }
 
 // Whether a value is the empty set.
@@ -65,19 +83,6 @@ fn is_empty(value: &Value) -> bool {
         Value::Set(set) => set.len() == 0,
         _ => false,
     }
-}
-
-// The mode of a declaration by which a variable holds a form.
-fn form_of<'p>(declared: Option<Declaration<'p>>) -> Option<&'p Mode>
-    ensures { IfSome result (λ mode. mode_by declared.entry ≡ Some (mode_of mode.now)) }
-{
-    let Some(declaration) = declared else {
-        return None;
-    };
-    if is_held_so(declaration.mode) {
-        return Some(declaration.mode);
-    }
-    None
 }
 
 // Whether values of a mode are held in its form.
@@ -164,7 +169,8 @@ pub(crate) fn update_in_form(
     requires few { CanGoOn store.old }
     requires there { HasSlot (length store.old.core.globals) (length store.old.core.now.own) slot }
     requires serves { Serves declarations.now store.old }
-    ensures { (line : ℕ) → IfOk result (λ done. WorksOrLeaves (modes_of declarations.now) store.old line (Alter (plain_alteration what) (plain_slot (variables store.old.core) slot) (map plain_bracket brackets.now)) store.new done) }
+    ensures did { (line : ℕ) → IfOk result (λ done. WorksOrLeaves (modes_of declarations.now) store.old line (Alter (plain_alteration what) (plain_slot (variables store.old.core) slot) (map plain_bracket brackets.now)) store.new done) }
+    ensures gained { (turns : ℕ) → IfOk result (λ done. done ≡ true → GainsIf (stores_at (plain_alteration what) (plain_slot (variables store.old.core) slot) (map plain_bracket brackets.now) store.old.core turns) (modes_of declarations.now) (plain_slot (variables store.old.core) slot) store.old store.new End.Paused) }
 {
     parts_decide();
     declared_variables_fit();
@@ -181,7 +187,7 @@ pub(crate) fn update_in_form(
     let Some(change) = change_of(by, value) else {
         return Ok(false);
     };
-    if !store.update(slot, &change)? {
+    if !store.update(slot, mode, &change)? {
         return Ok(false);
     }
     store.drop_top()?;

@@ -1,20 +1,25 @@
 //! Updates of integers in place.
 
-ghost use Rattle.std.specs.Prelude.{◌≡◌, ℕ, List, map, length, IfSome, IsSome, IfOk};
+ghost use Rattle.std.specs.Prelude.{◌≡◌, ℕ, List, Option, map, length, IfSome, IsSome, IfOk};
 ghost use Rattle.setl_code.specs.Code.{Alter};
 ghost use Rattle.setl_code.specs.MayRun.{HasSlot, CanAlter};
 ghost use Rattle.setl_code.specs.Plain.{plain_slot, plain_bracket, plain_alteration};
 ghost use Rattle.setl_store.specs.Standing.{variables, top_of, CanGoOn};
 ghost use Rattle.setl_value.specs.code.DatumOf.{datum};
 ghost use Rattle.setl_machine_control.specs.Declaring.{Modes, modes_of, Serves};
+ghost use Rattle.setl_machine_control.specs.Gaining.{gained_by};
+ghost use Rattle.setl_machine_control.specs.declared.end.End.{End};
 ghost use Rattle.setl_machine_variables.specs.Freely.{AltersFreely};
+ghost use Rattle.setl_machine_variables.specs.Gaining.{stores_at, GainsIf};
+ghost use Rattle.setl_model.specs.Step.{declared_mode};
+ghost use Rattle.setl_value.specs.Datum.{Datum};
 ghost use Rattle.setl_machine_control.specs.Working.{DoesBy, WorksBy};
 ghost use Rattle.setl_code.specs.Code.{Alteration as PlainAlteration, Bracket as PlainBracket};
 
 use crate::altering::alter;
 use crate::deciding::surely_takes;
 use crate::declarations::Declarations;
-use crate::in_form::update_in_form;
+use crate::in_form::{enters, update_in_form};
 use crate::integers::freely;
 use setl_code::{Alteration, Bracket, Slot};
 use setl_machine_control::{Control, End, go_on};
@@ -40,6 +45,7 @@ pub fn update(
     requires can { CanAlter what }
     requires serves { Serves declarations.now store.old }
     ensures did { IfOk result (λ end. DoesBy (modes_of declarations.now) store.old control.old line (Alter (plain_alteration what) (plain_slot (variables store.old.core) slot) (map plain_bracket brackets.now)) store.new control.new end) }
+    ensures gained { IfOk result (GainsIf (stores_at (plain_alteration what) (plain_slot (variables store.old.core) slot) (map plain_bracket brackets.now) store.old.core control.old.turns) (modes_of declarations.now) (plain_slot (variables store.old.core) slot) store.old store.new) }
     ensures reader { control.new.reader ≡ control.old.reader }
 {
     match new_integer(what, slot, brackets, declarations, store) {
@@ -64,6 +70,7 @@ fn update_any(
     requires can { CanAlter what }
     requires serves { Serves declarations.now store.old }
     ensures did { IfOk result (λ end. DoesBy (modes_of declarations.now) store.old control.old line (Alter (plain_alteration what) (plain_slot (variables store.old.core) slot) (map plain_bracket brackets.now)) store.new control.new end) }
+    ensures gained { IfOk result (GainsIf (stores_at (plain_alteration what) (plain_slot (variables store.old.core) slot) (map plain_bracket brackets.now) store.old.core control.old.turns) (modes_of declarations.now) (plain_slot (variables store.old.core) slot) store.old store.new) }
     ensures reader { control.new.reader ≡ control.old.reader }
 {
     if update_in_form(what, slot, brackets, declarations, store)? {
@@ -84,7 +91,8 @@ fn new_integer(
 ) -> Option<Value>
     requires there { HasSlot (length store.now.core.globals) (length store.now.core.now.own) slot }
     requires serves { Serves declarations.now store.now }
-    ensures { IfSome result (λ v. AltersFreely (modes_of declarations.now) (plain_alteration what) (plain_slot (variables store.now.core) slot) (map plain_bracket brackets.now) store.now.core (datum v)) }
+    ensures freely { IfSome result (λ v. AltersFreely (modes_of declarations.now) (plain_alteration what) (plain_slot (variables store.now.core) slot) (map plain_bracket brackets.now) store.now.core (datum v)) }
+    ensures entered { (v : Option Datum) → IfSome result (λ _. gained_by (declared_mode (modes_of declarations.now) (plain_slot (variables store.now.core) slot)) v store.now.bases ≡ store.now.bases) }
 {
     let Alteration::Combine(by) = what else {
         return None;
@@ -103,7 +111,8 @@ fn new_integer(
     let Some(new) = freely(by, whole, value) else {
         return None;
     };
-    if surely_takes(declarations.of_slot(slot, store), &new) {
+    let declared = declarations.of_slot(slot, store);
+    if surely_takes(declared, &new) && !enters(declared, store) {
         Some(new)
     } else {
         None
@@ -116,7 +125,9 @@ fn put_in_place(value: Value, slot: Slot, store: &mut Store<'_>) -> Result<End, 
     requires few { CanGoOn store.old }
     requires there { HasSlot (length store.old.core.globals) (length store.old.core.now.own) slot }
     requires some { IsSome (top_of store.old.core.now.operands) }
-    ensures { (modes : Modes) (line : ℕ) (what : PlainAlteration) (bs : List PlainBracket) → AltersFreely modes what (plain_slot (variables store.old.core) slot) bs store.old.core (datum value) → IfOk result (λ end. WorksBy modes store.old line (Alter what (plain_slot (variables store.old.core) slot) bs) store.new end) }
+    ensures did { (modes : Modes) (line : ℕ) (what : PlainAlteration) (bs : List PlainBracket) → AltersFreely modes what (plain_slot (variables store.old.core) slot) bs store.old.core (datum value) → IfOk result (λ end. WorksBy modes store.old line (Alter what (plain_slot (variables store.old.core) slot) bs) store.new end) }
+    ensures bases { store.new.bases ≡ store.old.bases }
+    ensures going { IfOk result (λ end. end ≡ End.Paused) }
 {
     store.drop_top()?;
     store.set_slot(slot, Some(value))?;

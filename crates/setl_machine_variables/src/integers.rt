@@ -28,7 +28,7 @@ pub fn freely_of_top(what: Operator, store: &Store<'_>) -> Option<Value>
 /// What an operator gives of two values, where these are integers and it charges nothing, or where it reads the component of a
 /// tuple at a place, or whether a value is a member of a set.
 #[inline(always)]
-pub fn freely_of_two(what: Operator, a: &Value, b: &Value) -> Option<Value>
+fn freely_of_two(what: Operator, a: &Value, b: &Value) -> Option<Value>
     ensures { IfSome result (λ v. GivesFreely what (datum a.now) (datum b.now) (datum v)) }
 {
     match freely(what, a, b) {
@@ -52,7 +52,7 @@ pub fn freely_of_one(what: Operator, store: &Store<'_>) -> Option<Value>
 /// What an operator with one operand gives of a value, where this is an integer or a truth value and it charges nothing, or where
 /// it counts.
 #[inline(always)]
-pub fn freely_alone(what: Operator, a: &Value) -> Option<Value>
+fn freely_alone(what: Operator, a: &Value) -> Option<Value>
     ensures { IfSome result (λ v. GivesAlone what (datum a.now) (datum v)) }
 {
     match (what, a) {

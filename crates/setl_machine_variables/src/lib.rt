@@ -13,5 +13,5 @@ mod variables;
 pub use altering::{Updated, alter};
 pub use declarations::Declarations;
 pub use in_place::update;
-pub use integers::{freely_alone, freely_of_one, freely_of_top, freely_of_two};
-pub use variables::{load, push, push_integer, push_text, store_at_once, store_in, take, value_in};
+pub use integers::{freely_of_one, freely_of_top};
+pub use variables::{load, push, push_integer, push_text, store_at_once, store_in, take};

@@ -1,20 +1,23 @@
 //! Instructions that push a value, and those on variables.
 
-ghost use Rattle.std.specs.Prelude.{◌≡◌, ◌∷◌, ℕ, drop, length, Some, IfOk, IfSome};
+ghost use Rattle.std.specs.Prelude.{◌≡◌, ◌∷◌, ℕ, drop, true, length, Option, Some, IfOk, IfSome, OnOk};
 ghost use Rattle.setl_code.specs.Code.{Push, Load, Take, StoreIn};
-ghost use Rattle.setl_code.specs.CodeCore.{Result as Holds, There, held};
+ghost use Rattle.setl_code.specs.CodeCore.{Result as Holds};
 ghost use Rattle.setl_code.specs.MayRun.{HasSlot};
 ghost use Rattle.setl_code.specs.Plain.{plain_slot};
 ghost use Rattle.setl_store.specs.Standing.{variables, CanGoOn};
-ghost use Rattle.setl_value.specs.Datum.{int, text};
+ghost use Rattle.setl_value.specs.Datum.{Datum, int, text};
 ghost use Rattle.setl_value.specs.code.DatumOf.{datum, part};
 ghost use Rattle.setl_machine_control.specs.Declaring.{modes_of, Serves};
 ghost use Rattle.setl_machine_control.specs.Working.{Works, WorksBy};
+ghost use Rattle.setl_machine_control.specs.Gaining.{gained_by};
 ghost use Rattle.setl_machine_variables.specs.Freely.{WorksOrLeaves};
+ghost use Rattle.setl_machine_variables.specs.Gaining.{GainsStore};
+ghost use Rattle.setl_model.specs.Step.{declared_mode};
 
 use crate::deciding::surely_takes;
 use crate::declarations::Declarations;
-use crate::in_form::{load_form, put};
+use crate::in_form::{enters, load_form, put};
 use setl_code::{Literal, Slot};
 use setl_machine_control::{End, StopKind, go_on, pop_top, refusal};
 use setl_store::{Content, Store};
@@ -74,18 +77,6 @@ pub fn load(slot: Slot, store: &mut Store<'_>) -> Result<End, AllocError>
     Ok(End::Paused)
 }
 
-/// The value that a variable holds as it is; None where it holds `om`, nothing, or a form. It takes no memory.
-#[inline(always)]
-pub fn value_in<'s>(slot: Slot, store: &'s Store<'_>) -> Option<&'s Value>
-    requires { HasSlot (length store.now.core.globals) (length store.now.core.now.own) slot }
-    ensures { IfSome result (λ value. held (plain_slot (variables store.now.core) slot) store.now.core ≡ There (Some (datum value.now))) }
-{
-    match store.slot(slot) {
-        Content::Value(value) => Some(value),
-        Content::Om | Content::Taken | Content::Based => None,
-    }
-}
-
 /// Pushes what a variable holds, and leaves nothing there. The run is stuck where that was taken before. The error is want of
 /// memory.
 #[inline(always)]
@@ -116,7 +107,8 @@ pub fn store_in(
     requires few { CanGoOn store.old }
     requires there { HasSlot (length store.old.core.globals) (length store.old.core.now.own) slot }
     requires serves { Serves declarations.now store.old }
-    ensures { IfOk result (λ end. WorksBy (modes_of declarations.now) store.old line (StoreIn (plain_slot (variables store.old.core) slot)) store.new end) }
+    ensures did { IfOk result (λ end. WorksBy (modes_of declarations.now) store.old line (StoreIn (plain_slot (variables store.old.core) slot)) store.new end) }
+    ensures gained { IfOk result (GainsStore (modes_of declarations.now) (plain_slot (variables store.old.core) slot) store.old store.new) }
 {
     let declared = declarations.of_slot(slot, store);
     let Some(value) = pop_top(store)? else {
@@ -146,12 +138,15 @@ pub fn store_at_once(
     requires few { CanGoOn store.old }
     requires there { HasSlot (length store.old.core.globals) (length store.old.core.now.own) slot }
     requires serves { Serves declarations.now store.old }
-    ensures { (line : ℕ) → IfOk result (λ done. WorksOrLeaves (modes_of declarations.now) store.old line (StoreIn (plain_slot (variables store.old.core) slot)) store.new done) }
+    ensures did { (line : ℕ) → IfOk result (λ done. WorksOrLeaves (modes_of declarations.now) store.old line (StoreIn (plain_slot (variables store.old.core) slot)) store.new done) }
+    ensures gained { OnOk result (store.new.bases ≡ store.old.bases) }
+    ensures entered { (v : Option Datum) → IfOk result (λ done. done ≡ true → gained_by (declared_mode (modes_of declarations.now) (plain_slot (variables store.old.core) slot)) v store.old.bases ≡ store.old.bases) }
 {
     let Some(value) = small_on_top(store) else {
         return Ok(false);
     };
-    if !surely_takes(declarations.of_slot(slot, store), &value) {
+    let declared = declarations.of_slot(slot, store);
+    if !surely_takes(declared, &value) || enters(declared, store) {
         return Ok(false);
     }
     store.drop_top()?;

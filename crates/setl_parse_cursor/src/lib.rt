@@ -24,6 +24,7 @@ pub use lookahead::ahead;
 pub use operators::{begins_selector, closes, op_at, quantifier, relation_op};
 pub use prefixes::{NotRule, PrefixRule, open_quantifier};
 pub use rule::{
-    ListedRule, Repeated, Rule, SeparatedRule, beside, enclosed, followed, listed, many, many_onto,
-    more_onto, one, optional, separated, two, with_many, with_optional,
+    ListedRule, Repeated, Rule, SeparatedRule, beside, enclosed, followed, held, listed, many,
+    many_boxed, many_onto, more_boxed_onto, more_onto, one, optional, separated, separated_boxed,
+    two, with_many, with_many_boxed, with_optional,
 };

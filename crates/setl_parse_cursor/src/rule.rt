@@ -1,6 +1,6 @@
 //! Rules of the grammar, and lists of them.
 
-ghost use Rattle.std.specs.Prelude.{◌≡◌, IfOk, IfErr, [], ◌∷◌, ◌++◌};
+ghost use Rattle.std.specs.Prelude.{◌≡◌, ◌≢◌, Ok, Err, IfOk, IfErr, [], ◌∷◌, ◌++◌};
 ghost use Rattle.setl_parse_reading.specs.code.Reading as spec;
 ghost use Rattle.setl_parse_reading.specs.code.Reading.{Reads};
 ghost use Rattle.setl_parse_cursor.specs.code.Behind as behind;
@@ -60,6 +60,49 @@ pub fn two<T: Drop>(alloc: Global, first: T, second: T) -> Result<Items<T>, Faul
     Ok(items)
 }
 
+/// What was read before, and what is read now. A fault is that of the second. What lets the first go isn't inlined, so that
+/// no call that reads inside a nesting has room for it on the stack.
+#[inline(never)]
+pub fn held<T: Drop, U: Drop>(head: T, part: Result<U, Fault>) -> Result<(T, U), Fault>
+    ensures head { IfOk result (λ all. all.0 ≡ head) }
+    ensures part { IfOk result (λ all. part ≡ Ok all.1) }
+    ensures err { IfErr result (λ e. part ≡ Err e) }
+{
+    let part = part?;
+    Ok((head, part))
+}
+
+/// A list of what is read in a box, with room for it alone.
+#[inline(never)]
+fn only<T: Drop>(alloc: Global, part: Result<Boxed<T>, Fault>) -> Result<Items<T>, Fault>
+    ensures ok { IfOk result (λ all. (x : T) × (part ≡ Ok x) × (all ≡ x ∷ [])) }
+    ensures err { IfErr result (λ e. e ≢ Fault.Memory → part ≡ Err e) }
+{
+    one(alloc, part?.into_inner())
+}
+
+/// Items, and behind them what is read.
+#[inline(never)]
+fn pushed<T: Drop>(items: Items<T>, part: Result<T, Fault>) -> Result<Items<T>, Fault>
+    ensures ok { IfOk result (λ all. (x : T) × (part ≡ Ok x) × (all ≡ items ++ x ∷ [])) }
+    ensures err { IfErr result (λ e. e ≢ Fault.Memory → part ≡ Err e) }
+{
+    let mut all = items;
+    all.push(part?)?;
+    Ok(all)
+}
+
+/// Items, and behind them what is read in a box.
+#[inline(never)]
+fn put<T: Drop>(items: Items<T>, part: Result<Boxed<T>, Fault>) -> Result<Items<T>, Fault>
+    ensures ok { IfOk result (λ all. (x : T) × (part ≡ Ok x) × (all ≡ items ++ x ∷ [])) }
+    ensures err { IfErr result (λ e. e ≢ Fault.Memory → part ≡ Err e) }
+{
+    let mut all = items;
+    all.push(part?.into_inner())?;
+    Ok(all)
+}
+
 /// Items, and behind them parts in their order, while the next token begins one. A fault is the first part's that has
 /// one.
 pub fn many_onto<R: Repeated>(
@@ -75,7 +118,26 @@ pub fn many_onto<R: Repeated>(
         if !rule.begins(tokens.kind()) {
             return Ok(found);
         }
-        found.push(rule.read(tokens)?)?;
+        found = pushed(found, rule.read(tokens))?;
+    }
+    Ok(found)
+}
+
+/// The same where parts are read in boxes, out of which they are taken.
+pub fn many_boxed_onto<T: Drop, R: Repeated<Out = Boxed<T>>>(
+    items: Items<T>,
+    rule: &R,
+    tokens: &mut Cursor<'_>,
+) -> Result<Items<T>, Fault>
+    requires { R.can_read rule.now }
+    ensures { Reads (behind.many_onto items (R.begins_with rule.now) (R.reader rule.now) tokens.old) result tokens.new }
+{
+    let mut found = items;
+    for _turn in 0..tokens.left() {
+        if !rule.begins(tokens.kind()) {
+            return Ok(found);
+        }
+        found = put(found, rule.read(tokens))?;
     }
     Ok(found)
 }
@@ -86,6 +148,17 @@ pub fn many<R: Repeated>(rule: &R, tokens: &mut Cursor<'_>) -> Result<Items<R::O
     ensures { Reads (spec.many (R.begins_with rule.now) (R.reader rule.now) tokens.old) result tokens.new }
 {
     many_onto(Items::new(tokens.alloc()), rule, tokens)
+}
+
+/// `many` where parts are read in boxes, out of which they are taken.
+pub fn many_boxed<T: Drop, R: Repeated<Out = Boxed<T>>>(
+    rule: &R,
+    tokens: &mut Cursor<'_>,
+) -> Result<Items<T>, Fault>
+    requires { R.can_read rule.now }
+    ensures { Reads (spec.many (R.begins_with rule.now) (R.reader rule.now) tokens.old) result tokens.new }
+{
+    many_boxed_onto(Items::new(tokens.alloc()), rule, tokens)
 }
 
 /// A part, if the next token begins one, otherwise `None`. A fault is the part's.
@@ -100,6 +173,7 @@ pub fn optional<R: Repeated>(rule: &R, tokens: &mut Cursor<'_>) -> Result<Option
 }
 
 /// What was read, behind which a token of this kind stands.
+#[inline(never)]
 pub fn followed<T: Drop>(head: T, kind: Kind, tokens: &mut Cursor<'_>) -> Result<T, Fault>
     ensures { Reads (behind.followed head kind tokens.old) result tokens.new }
 {
@@ -116,8 +190,7 @@ pub fn beside<T: Drop, R: Rule>(
     requires { R.can_read rule.now }
     ensures { Reads (behind.beside head (R.reader rule.now) tokens.old) result tokens.new }
 {
-    let part = rule.read(tokens)?;
-    Ok((head, part))
+    Ok(held(head, rule.read(tokens))?)
 }
 
 /// What was read, and beside it the part of `optional`.
@@ -129,8 +202,7 @@ pub fn with_optional<T: Drop, R: Repeated>(
     requires { R.can_read rule.now }
     ensures { Reads (behind.beside head (spec.optional (R.begins_with rule.now) (R.reader rule.now)) tokens.old) result tokens.new }
 {
-    let part = optional(rule, tokens)?;
-    Ok((head, part))
+    Ok(held(head, optional(rule, tokens))?)
 }
 
 /// A part between a token that opens a nesting, where so many may still open, and one that closes it.
@@ -158,8 +230,19 @@ pub fn with_many<T: Drop, R: Repeated>(
     requires { R.can_read rule.now }
     ensures { Reads (behind.beside head (spec.many (R.begins_with rule.now) (R.reader rule.now)) tokens.old) result tokens.new }
 {
-    let parts = many(rule, tokens)?;
-    Ok((head, parts))
+    Ok(held(head, many(rule, tokens))?)
+}
+
+/// What was read, and beside it the parts of `many_boxed`.
+pub fn with_many_boxed<T: Drop, U: Drop, R: Repeated<Out = Boxed<U>>>(
+    head: T,
+    rule: &R,
+    tokens: &mut Cursor<'_>,
+) -> Result<(T, Items<U>), Fault>
+    requires { R.can_read rule.now }
+    ensures { Reads (behind.beside head (spec.many (R.begins_with rule.now) (R.reader rule.now)) tokens.old) result tokens.new }
+{
+    Ok(held(head, many_boxed(rule, tokens))?)
 }
 
 /// One or more parts in their order, with commas between. No comma stands behind the last.
@@ -216,6 +299,32 @@ pub fn more_onto<R: Rule>(
     ensures { Reads (behind.more_onto items (R.reader rule.now) tokens.old) result tokens.new }
 {
     many_onto(items, &BehindComma { part: rule }, tokens)
+}
+
+/// `more_onto` where parts are read in boxes, out of which they are taken.
+#[tactic(auto, unfolding(setl_parse_reading::specs::code::Reading::more))]
+pub fn more_boxed_onto<T: Drop, R: Rule<Out = Boxed<T>>>(
+    items: Items<T>,
+    rule: &R,
+    tokens: &mut Cursor<'_>,
+) -> Result<Items<T>, Fault>
+    requires { R.can_read rule.now }
+    ensures { Reads (behind.more_onto items (R.reader rule.now) tokens.old) result tokens.new }
+{
+    many_boxed_onto(items, &BehindComma { part: rule }, tokens)
+}
+
+/// `separated` where parts are read in boxes, out of which they are taken.
+#[tactic(auto, unfolding(setl_parse_reading::specs::code::Reading::separated))]
+pub fn separated_boxed<T: Drop, R: Rule<Out = Boxed<T>>>(
+    rule: &R,
+    tokens: &mut Cursor<'_>,
+) -> Result<Items<T>, Fault>
+    requires { R.can_read rule.now }
+    ensures { Reads (spec.separated (R.reader rule.now) tokens.old) result tokens.new }
+{
+    let first = only(tokens.alloc(), rule.read(tokens))?;
+    more_boxed_onto(first, rule, tokens)
 }
 
 /// Parts in their order with commas between, or none where the next token is the one that closes them. That token is

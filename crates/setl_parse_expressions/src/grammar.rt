@@ -7,7 +7,7 @@ ghost use Rattle.setl_parse_reading.specs.code.ReadExpressions.{nested};
 ghost use Rattle.setl_parse_cursor.specs.code.Behind as behind;
 ghost use Rattle.setl_parse_expressions.specs.code.Nests.{Nests};
 
-use setl_parse_cursor::{Cursor, followed};
+use setl_parse_cursor::{Cursor, followed, held};
 use setl_parse_reading::Fault;
 use setl_tree::{Boxed, Expr, Kind};
 
@@ -39,14 +39,6 @@ impl<F: Fn(&mut Cursor<'_>, usize, Part) -> Result<Boxed<Expr>, Fault>> Grammar<
         (self.inside)(tokens, self.room, Part::Whole)
     }
 
-    /// An expression one nesting deeper.
-    pub fn expr(&self, tokens: &mut Cursor<'_>) -> Result<Expr, Fault>
-        requires { Nests self.now.room (F.pre self.now.inside) (F.post self.now.inside) }
-        ensures { Reads ((nested self.now.room).expr tokens.old) result tokens.new }
-    {
-        Ok(self.boxed(tokens)?.into_inner())
-    }
-
     /// An expression one nesting deeper, in a box, behind which a token of this kind stands.
     pub fn boxed_before(&self, kind: Kind, tokens: &mut Cursor<'_>) -> Result<Boxed<Expr>, Fault>
         requires { Nests self.now.room (F.pre self.now.inside) (F.post self.now.inside) }
@@ -67,8 +59,7 @@ impl<F: Fn(&mut Cursor<'_>, usize, Part) -> Result<Boxed<Expr>, Fault>> Grammar<
         ensures { Reads (behind.behind head kind (nested self.now.room).expr tokens.old) result tokens.new }
     {
         let head = followed(head, kind, tokens)?;
-        let x = self.boxed(tokens)?;
-        Ok((head, x))
+        Ok(held(head, self.boxed(tokens))?)
     }
 
     /// The source of an iterator one nesting deeper.
@@ -89,8 +80,7 @@ impl<F: Fn(&mut Cursor<'_>, usize, Part) -> Result<Boxed<Expr>, Fault>> Grammar<
         ensures { Reads (behind.behind bound k.In (nested self.now.room).source tokens.old) result tokens.new }
     {
         let bound = followed(bound, Kind::In, tokens)?;
-        let source = self.source(tokens)?;
-        Ok((bound, source))
+        Ok(held(bound, self.source(tokens))?)
     }
 
     /// What goes on from a comparison one nesting deeper.

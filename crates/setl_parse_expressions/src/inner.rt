@@ -8,38 +8,15 @@ ghost use Rattle.setl_parse_expressions.specs.code.Nests.{Nests};
 ghost use Rattle.setl_parse_expressions.specs.code.Parts as parts;
 
 use crate::grammar::{Grammar, Part};
-use crate::made::membership;
+use crate::made::{self, membership, one_expr, two_exprs};
 use setl_parse_cursor::{
-    Cursor, Repeated, Rule, ahead, bound, closes, followed, more_onto, one, same_kind, two,
+    Cursor, Repeated, Rule, ahead, bound, closes, followed, held, more_boxed_onto, same_kind,
     with_optional,
 };
 use setl_parse_reading::{Ahead, Fault};
 use setl_tree::{Bound, Boxed, Expr, Inner, Items, Iter, Kind};
 
-/// An expression one nesting deeper.
-#[derive(Drop)]
-pub struct ExprRule<'g, F> {
-    pub grammar: &'g Grammar<F>,
-}
-
-impl<'g, F: Fn(&mut Cursor<'_>, usize, Part) -> Result<Boxed<Expr>, Fault>> Rule
-    for ExprRule<'g, F> {
-    type Out = Expr;
-
-    ghost use Rattle.std.specs.Prelude.{◌-◌};
-    ghost use Rattle.setl_parse_reading.specs.code.ReadExpressions.{nested};
-    ghost use Rattle.setl_parse_expressions.specs.code.Nests.{Nests};
-
-    ghost can_read = { λ s. Nests s.grammar.now.room (F.pre s.grammar.now.inside) (F.post s.grammar.now.inside) };
-
-    ghost reader = { λ s. (nested s.grammar.now.room).expr };
-
-    fn read(&self, tokens: &mut Cursor<'_>) -> Result<Expr, Fault> {
-        self.grammar.expr(tokens)
-    }
-}
-
-/// The same in a box.
+/// An expression one nesting deeper, in a box.
 #[derive(Drop)]
 pub struct BoxedRule<'g, F> {
     pub grammar: &'g Grammar<F>,
@@ -112,12 +89,12 @@ impl<F: Fn(&mut Cursor<'_>, usize, Part) -> Result<Boxed<Expr>, Fault>> Grammar<
     /// A former behind `value :`.
     #[inline(never)]
     #[tactic(auto, unfolding(setl_parse_reading::specs::code::ReadExpressions::former))]
-    fn former(&self, value: Boxed<Expr>, tokens: &mut Cursor<'_>) -> Result<Inner, Fault>
+    fn former(&self, value: Boxed<Expr>, tokens: &mut Cursor<'_>) -> Result<Boxed<Inner>, Fault>
         requires { Nests self.now.room (F.pre self.now.inside) (F.post self.now.inside) }
         ensures { Reads (spec.former (self.now.room - 1) (nested self.now.room) value tokens.old) result tokens.new }
     {
-        let (over, condition) = self.clauses(tokens)?;
-        Ok(Inner::Former(value, over, condition))
+        let (value, (over, condition)) = held(value, self.clauses(tokens))?;
+        made::former(tokens.alloc(), value, over, condition)
     }
 
     /// What stands behind `a, b`, where no `..` does.
@@ -130,26 +107,32 @@ impl<F: Fn(&mut Cursor<'_>, usize, Part) -> Result<Boxed<Expr>, Fault>> Grammar<
         requires { Nests self.now.room (F.pre self.now.inside) (F.post self.now.inside) }
         ensures { Reads (parts.two_and_more a b (nested self.now.room).expr tokens.old) result tokens.new }
     {
-        let front = two(tokens.alloc(), a.into_inner(), b.into_inner())?;
-        more_onto(front, &ExprRule { grammar: self }, tokens)
+        let front = two_exprs(tokens.alloc(), a, b)?;
+        more_boxed_onto(front, &BoxedRule { grammar: self }, tokens)
     }
 
     /// What stands behind `a, b`.
     #[tactic(auto, unfolding(setl_parse_reading::specs::code::ReadExpressions::third))]
-    fn third(&self, a: Boxed<Expr>, b: Boxed<Expr>, tokens: &mut Cursor<'_>) -> Result<Inner, Fault>
+    fn third(
+        &self,
+        a: Boxed<Expr>,
+        b: Boxed<Expr>,
+        tokens: &mut Cursor<'_>,
+    ) -> Result<Boxed<Inner>, Fault>
         requires { Nests self.now.room (F.pre self.now.inside) (F.post self.now.inside) }
         ensures { Reads (spec.third (self.now.room - 1) (nested self.now.room) a b tokens.old) result tokens.new }
     {
         if same_kind(tokens.kind(), Kind::Dots) {
             let (between, last) = self.boxed_behind((a, b), Kind::Dots, tokens)?;
-            return Ok(Inner::Range(between.0, Some(between.1), last));
+            return made::range(tokens.alloc(), between.0, Some(between.1), last);
         }
-        Ok(Inner::List(self.two_and_more(a, b, tokens)?))
+        let all = self.two_and_more(a, b, tokens)?;
+        made::list(tokens.alloc(), all)
     }
 
     /// What stands behind `a`, where no `:` or `..` does.
     #[tactic(auto, unfolding(setl_parse_reading::specs::code::ReadExpressions::second))]
-    fn second(&self, a: Boxed<Expr>, tokens: &mut Cursor<'_>) -> Result<Inner, Fault>
+    fn second(&self, a: Boxed<Expr>, tokens: &mut Cursor<'_>) -> Result<Boxed<Inner>, Fault>
         requires { Nests self.now.room (F.pre self.now.inside) (F.post self.now.inside) }
         ensures { Reads (spec.second (self.now.room - 1) (nested self.now.room) a tokens.old) result tokens.new }
     {
@@ -157,12 +140,13 @@ impl<F: Fn(&mut Cursor<'_>, usize, Part) -> Result<Boxed<Expr>, Fault>> Grammar<
             let (a, b) = self.boxed_behind(a, Kind::Comma, tokens)?;
             return self.third(a, b, tokens);
         }
-        Ok(Inner::List(one(tokens.alloc(), a.into_inner())?))
+        let all = one_expr(tokens.alloc(), a)?;
+        made::list(tokens.alloc(), all)
     }
 
     /// What stands behind the first expression, where no `..` does.
     #[tactic(auto, unfolding(setl_parse_reading::specs::code::ReadExpressions::unranged))]
-    fn unranged(&self, a: Boxed<Expr>, tokens: &mut Cursor<'_>) -> Result<Inner, Fault>
+    fn unranged(&self, a: Boxed<Expr>, tokens: &mut Cursor<'_>) -> Result<Boxed<Inner>, Fault>
         requires { Nests self.now.room (F.pre self.now.inside) (F.post self.now.inside) }
         ensures { Reads (spec.unranged (self.now.room - 1) (nested self.now.room) a tokens.old) result tokens.new }
     {
@@ -176,25 +160,25 @@ impl<F: Fn(&mut Cursor<'_>, usize, Part) -> Result<Boxed<Expr>, Fault>> Grammar<
     /// What stands behind the first expression.
     #[inline(never)]
     #[tactic(auto, unfolding(setl_parse_reading::specs::code::ReadExpressions::rest_of_inner))]
-    fn rest_of_inner(&self, a: Boxed<Expr>, tokens: &mut Cursor<'_>) -> Result<Inner, Fault>
+    fn rest_of_inner(&self, a: Boxed<Expr>, tokens: &mut Cursor<'_>) -> Result<Boxed<Inner>, Fault>
         requires { Nests self.now.room (F.pre self.now.inside) (F.post self.now.inside) }
         ensures { Reads (spec.rest_of_inner (self.now.room - 1) (nested self.now.room) a tokens.old) result tokens.new }
     {
         if same_kind(tokens.kind(), Kind::Dots) {
             let (a, last) = self.boxed_behind(a, Kind::Dots, tokens)?;
-            return Ok(Inner::Range(a, None, last));
+            return made::range(tokens.alloc(), a, None, last);
         }
         self.unranged(a, tokens)
     }
 
     /// An expression in front, or nothing.
     #[tactic(auto, unfolding(setl_parse_reading::specs::code::ReadExpressions::plain))]
-    fn plain(&self, tokens: &mut Cursor<'_>) -> Result<Inner, Fault>
+    fn plain(&self, tokens: &mut Cursor<'_>) -> Result<Boxed<Inner>, Fault>
         requires { Nests self.now.room (F.pre self.now.inside) (F.post self.now.inside) }
         ensures { Reads (spec.plain (self.now.room - 1) (nested self.now.room) tokens.old) result tokens.new }
     {
         if closes(tokens.kind()) {
-            return Ok(Inner::List(Items::new(tokens.alloc())));
+            return made::list(tokens.alloc(), Items::new(tokens.alloc()));
         }
         let a = self.boxed(tokens)?;
         self.rest_of_inner(a, tokens)
@@ -208,12 +192,12 @@ impl<F: Fn(&mut Cursor<'_>, usize, Part) -> Result<Boxed<Expr>, Fault>> Grammar<
         bound: Bound,
         source: Boxed<Expr>,
         tokens: &mut Cursor<'_>,
-    ) -> Result<Inner, Fault>
+    ) -> Result<Boxed<Inner>, Fault>
         requires { Nests self.now.room (F.pre self.now.inside) (F.post self.now.inside) }
         ensures { Reads (spec.filter (self.now.room - 1) (nested self.now.room) bound source tokens.old) result tokens.new }
     {
         let (head, condition) = self.boxed_behind((bound, source), Kind::Bar, tokens)?;
-        Ok(Inner::Filter(head.0, head.1, condition))
+        made::filter(tokens.alloc(), head.0, head.1, condition)
     }
 
     /// What stands behind `bound in source`, which may be the left side of an expression.
@@ -224,7 +208,7 @@ impl<F: Fn(&mut Cursor<'_>, usize, Part) -> Result<Boxed<Expr>, Fault>> Grammar<
         bound: Bound,
         source: Boxed<Expr>,
         tokens: &mut Cursor<'_>,
-    ) -> Result<Inner, Fault>
+    ) -> Result<Boxed<Inner>, Fault>
         requires { Nests self.now.room (F.pre self.now.inside) (F.post self.now.inside) }
         ensures { Reads (spec.filter_or_plain (self.now.room - 1) (nested self.now.room) bound source tokens.old) result tokens.new }
     {
@@ -248,7 +232,7 @@ impl<F: Fn(&mut Cursor<'_>, usize, Part) -> Result<Boxed<Expr>, Fault>> Grammar<
     /// `bound in source`, and what goes on from them, where the bound may be an expression.
     #[inline(never)]
     #[tactic(auto, unfolding(setl_parse_reading::specs::code::ReadExpressions::bound_first))]
-    fn either(&self, tokens: &mut Cursor<'_>) -> Result<Inner, Fault>
+    fn either(&self, tokens: &mut Cursor<'_>) -> Result<Boxed<Inner>, Fault>
         requires { Nests self.now.room (F.pre self.now.inside) (F.post self.now.inside) }
         ensures { Reads (spec.bound_first (self.now.room - 1) (nested self.now.room) (spec.filter_or_plain (self.now.room - 1) (nested self.now.room)) tokens.old) result tokens.new }
     {
@@ -259,7 +243,7 @@ impl<F: Fn(&mut Cursor<'_>, usize, Part) -> Result<Boxed<Expr>, Fault>> Grammar<
     /// A filter whose bound is no expression.
     #[inline(never)]
     #[tactic(auto, unfolding(setl_parse_reading::specs::code::ReadExpressions::bound_first))]
-    fn pattern_filter(&self, tokens: &mut Cursor<'_>) -> Result<Inner, Fault>
+    fn pattern_filter(&self, tokens: &mut Cursor<'_>) -> Result<Boxed<Inner>, Fault>
         requires { Nests self.now.room (F.pre self.now.inside) (F.post self.now.inside) }
         ensures { Reads (spec.bound_first (self.now.room - 1) (nested self.now.room) (spec.filter (self.now.room - 1) (nested self.now.room)) tokens.old) result tokens.new }
     {
@@ -276,7 +260,7 @@ pub struct InnerRule<'g, F> {
 
 impl<'g, F: Fn(&mut Cursor<'_>, usize, Part) -> Result<Boxed<Expr>, Fault>> Rule
     for InnerRule<'g, F> {
-    type Out = Inner;
+    type Out = Boxed<Inner>;
 
     ghost use Rattle.std.specs.Prelude.{◌-◌};
     ghost use Rattle.setl_parse_reading.specs.code.ReadExpressions.{nested, inner};
@@ -287,7 +271,7 @@ impl<'g, F: Fn(&mut Cursor<'_>, usize, Part) -> Result<Boxed<Expr>, Fault>> Rule
     ghost reader = { λ s. inner (s.grammar.now.room - 1) (nested s.grammar.now.room) };
 
     #[tactic(auto, unfolding(setl_parse_reading::specs::code::ReadExpressions::inner))]
-    fn read(&self, tokens: &mut Cursor<'_>) -> Result<Inner, Fault> {
+    fn read(&self, tokens: &mut Cursor<'_>) -> Result<Boxed<Inner>, Fault> {
         match ahead(tokens) {
             Ahead::Expression => self.grammar.plain(tokens),
             Ahead::Either => self.grammar.either(tokens),

@@ -1,12 +1,16 @@
 //! Expressions made of their parts. An error is want of memory.
+//!
+//! They are boxed here, in functions that aren't inlined: so no call that reads inside a nesting has room for one on the stack.
 
-ghost use Rattle.std.specs.Prelude.{◌≡◌, IfOk, IfErr};
+ghost use Rattle.std.specs.Prelude.{◌≡◌, IfOk, IfErr, [], ◌∷◌};
 ghost use Rattle.setl_tree.specs.Operators as table;
 ghost use Rattle.setl_parse_reading.specs.code.Scan as scan;
 
+use setl_parse_cursor::{one, two};
 use setl_parse_reading::Fault;
 use setl_tree::{
-    BinaryOp, Bound, Boxed, Expr, Inner, Items, Iter, Kind, Prefix, Relation, Selector, Slot,
+    BinaryOp, Bound, Boxed, Expr, Inner, Items, Iter, Kind, Prefix, Quantifier, Relation, Selector,
+    Slot,
 };
 use std::alloc::{AllocError, Global};
 
@@ -58,6 +62,7 @@ pub fn chain_of(
 }
 
 /// An operand with its prefixes.
+#[inline(never)]
 pub fn prefixed(
     alloc: Global,
     prefixes: Items<Prefix>,
@@ -73,6 +78,7 @@ pub fn prefixed(
 }
 
 /// A primary expression with its selectors.
+#[inline(never)]
 pub fn selected(
     alloc: Global,
     primary: Boxed<Expr>,
@@ -87,12 +93,173 @@ pub fn selected(
     Ok(Boxed::new(alloc, Expr::Selected(primary, selectors))?)
 }
 
+/// A comparison.
+#[inline(never)]
+pub fn compare(
+    alloc: Global,
+    a: Boxed<Expr>,
+    op: Relation,
+    b: Boxed<Expr>,
+) -> Result<Boxed<Expr>, Fault>
+    ensures ok { IfOk result (λ e. e ≡ Expr.Compare a op b) }
+    ensures err { IfErr result (λ e. e ≡ Fault.Memory) }
+{
+    Ok(Boxed::new(alloc, Expr::Compare(a, op, b))?)
+}
+
+/// A conditional expression.
+#[inline(never)]
+pub fn choice(
+    alloc: Global,
+    condition: Boxed<Expr>,
+    value: Boxed<Expr>,
+    other: Boxed<Expr>,
+) -> Result<Boxed<Expr>, Fault>
+    ensures ok { IfOk result (λ e. e ≡ Expr.If condition value other) }
+    ensures err { IfErr result (λ e. e ≡ Fault.Memory) }
+{
+    Ok(Boxed::new(alloc, Expr::If(condition, value, other))?)
+}
+
+/// A quantified expression.
+#[inline(never)]
+pub fn quantified(
+    alloc: Global,
+    quantifier: Quantifier,
+    over: Items<Iter>,
+    condition: Boxed<Expr>,
+) -> Result<Boxed<Expr>, Fault>
+    ensures ok { IfOk result (λ e. e ≡ Expr.Quantified quantifier over condition) }
+    ensures err { IfErr result (λ e. e ≡ Fault.Memory) }
+{
+    Ok(Boxed::new(alloc, Expr::Quantified(quantifier, over, condition))?)
+}
+
+/// A set.
+#[inline(never)]
+pub fn set(alloc: Global, inner: Boxed<Inner>) -> Result<Boxed<Expr>, Fault>
+    ensures ok { IfOk result (λ e. e ≡ Expr.Set inner) }
+    ensures err { IfErr result (λ e. e ≡ Fault.Memory) }
+{
+    Ok(Boxed::new(alloc, Expr::Set(inner.into_inner()))?)
+}
+
+/// A tuple.
+#[inline(never)]
+pub fn tuple(alloc: Global, inner: Boxed<Inner>) -> Result<Boxed<Expr>, Fault>
+    ensures ok { IfOk result (λ e. e ≡ Expr.Tuple inner) }
+    ensures err { IfErr result (λ e. e ≡ Fault.Memory) }
+{
+    Ok(Boxed::new(alloc, Expr::Tuple(inner.into_inner()))?)
+}
+
+/// The members of a set or the components of a tuple.
+#[inline(never)]
+pub fn list(alloc: Global, all: Items<Expr>) -> Result<Boxed<Inner>, Fault>
+    ensures ok { IfOk result (λ i. i ≡ Inner.List all) }
+    ensures err { IfErr result (λ e. e ≡ Fault.Memory) }
+{
+    Ok(Boxed::new(alloc, Inner::List(all))?)
+}
+
+/// One expression alone.
+#[inline(never)]
+pub fn one_expr(alloc: Global, a: Boxed<Expr>) -> Result<Items<Expr>, Fault>
+    ensures ok { IfOk result (λ all. all ≡ a ∷ []) }
+    ensures err { IfErr result (λ e. e ≡ Fault.Memory) }
+{
+    one(alloc, a.into_inner())
+}
+
+/// Two expressions.
+#[inline(never)]
+pub fn two_exprs(alloc: Global, a: Boxed<Expr>, b: Boxed<Expr>) -> Result<Items<Expr>, Fault>
+    ensures ok { IfOk result (λ all. all ≡ a ∷ b ∷ []) }
+    ensures err { IfErr result (λ e. e ≡ Fault.Memory) }
+{
+    two(alloc, a.into_inner(), b.into_inner())
+}
+
+/// A range.
+#[inline(never)]
+pub fn range(
+    alloc: Global,
+    first: Boxed<Expr>,
+    second: Option<Boxed<Expr>>,
+    last: Boxed<Expr>,
+) -> Result<Boxed<Inner>, Fault>
+    ensures ok { IfOk result (λ i. i ≡ Inner.Range first second last) }
+    ensures err { IfErr result (λ e. e ≡ Fault.Memory) }
+{
+    Ok(Boxed::new(alloc, Inner::Range(first, second, last))?)
+}
+
+/// A former.
+#[inline(never)]
+pub fn former(
+    alloc: Global,
+    value: Boxed<Expr>,
+    over: Items<Iter>,
+    condition: Option<Boxed<Expr>>,
+) -> Result<Boxed<Inner>, Fault>
+    ensures ok { IfOk result (λ i. i ≡ Inner.Former value over condition) }
+    ensures err { IfErr result (λ e. e ≡ Fault.Memory) }
+{
+    Ok(Boxed::new(alloc, Inner::Former(value, over, condition))?)
+}
+
+/// A filter.
+#[inline(never)]
+pub fn filter(
+    alloc: Global,
+    bound: Bound,
+    source: Boxed<Expr>,
+    condition: Boxed<Expr>,
+) -> Result<Boxed<Inner>, Fault>
+    ensures ok { IfOk result (λ i. i ≡ Inner.Filter bound source condition) }
+    ensures err { IfErr result (λ e. e ≡ Fault.Memory) }
+{
+    Ok(Boxed::new(alloc, Inner::Filter(bound, source, condition))?)
+}
+
+/// Arguments.
+#[inline(never)]
+pub fn round(alloc: Global, all: Items<Expr>) -> Result<Boxed<Selector>, Fault>
+    ensures ok { IfOk result (λ s. s ≡ Selector.Round all) }
+    ensures err { IfErr result (λ e. e ≡ Fault.Memory) }
+{
+    Ok(Boxed::new(alloc, Selector::Round(all))?)
+}
+
+/// The bounds of a slice.
+#[inline(never)]
+pub fn slice(
+    alloc: Global,
+    from: Boxed<Expr>,
+    to: Option<Boxed<Expr>>,
+) -> Result<Boxed<Selector>, Fault>
+    ensures ok { IfOk result (λ s. s ≡ Selector.Slice from to) }
+    ensures err { IfErr result (λ e. e ≡ Fault.Memory) }
+{
+    Ok(Boxed::new(alloc, Selector::Slice(from, to))?)
+}
+
+/// Arguments in braces.
+#[inline(never)]
+pub fn braces(alloc: Global, all: Items<Expr>) -> Result<Boxed<Selector>, Fault>
+    ensures ok { IfOk result (λ s. s ≡ Selector.Braces all) }
+    ensures err { IfErr result (λ e. e ≡ Fault.Memory) }
+{
+    Ok(Boxed::new(alloc, Selector::Braces(all))?)
+}
+
 /// An iterator over the members of a source.
 #[inline(never)]
-pub fn over(bound: Bound, source: Boxed<Expr>) -> Iter
-    ensures { result ≡ Iter.Over bound source }
+pub fn over(alloc: Global, bound: Bound, source: Boxed<Expr>) -> Result<Boxed<Iter>, Fault>
+    ensures ok { IfOk result (λ i. i ≡ Iter.Over bound source) }
+    ensures err { IfErr result (λ e. e ≡ Fault.Memory) }
 {
-    Iter::Over(bound, source.into_inner())
+    Ok(Boxed::new(alloc, Iter::Over(bound, source.into_inner()))?)
 }
 
 /// A slot as the expression that has the same tokens.
@@ -128,6 +295,7 @@ fn bound_as_expr(alloc: Global, bound: Bound) -> Result<Expr, AllocError>
 }
 
 /// What a filter binds, as the expression that has the same tokens, compared by `in`.
+#[inline(never)]
 pub fn membership(alloc: Global, bound: Bound, source: Boxed<Expr>) -> Result<Boxed<Expr>, Fault>
     ensures ok { IfOk result (λ e. e ≡ Expr.Compare (scan.bound_expr bound) Relation.In source) }
     ensures err { IfErr result (λ e. e ≡ Fault.Memory) }

@@ -11,6 +11,7 @@ use setl_parse_reading::Fault;
 use setl_tree::{Boxed, Expr, Items, Iter, Kind, Selector};
 
 /// The fault of what may not be read, which is let go.
+#[inline(never)]
 fn refused<T: Drop>(_part: T, tokens: &mut Cursor<'_>) -> Result<Boxed<Expr>, Fault>
     ensures { Reads (refuse tokens.old) result tokens.new }
 {
@@ -53,10 +54,10 @@ pub fn expr(room: usize, tokens: &mut Cursor<'_>) -> Result<Expr, Fault>
 }
 
 /// Reads an expression inside a nesting that `room` still counts; at 0 always a syntax fault.
-pub fn nested_expr(room: usize, tokens: &mut Cursor<'_>) -> Result<Expr, Fault>
+pub fn nested_expr(room: usize, tokens: &mut Cursor<'_>) -> Result<Boxed<Expr>, Fault>
     ensures { Reads ((spec.nested room).expr tokens.old) result tokens.new }
 {
-    Ok(nested(tokens, room, Part::Whole)?.into_inner())
+    nested(tokens, room, Part::Whole)
 }
 
 /// `nested_expr` as a rule.
@@ -75,7 +76,7 @@ impl Rule for NestedExpr {
     ghost reader = { λ s. (nested s.room).expr };
 
     fn read(&self, tokens: &mut Cursor<'_>) -> Result<Expr, Fault> {
-        nested_expr(self.room, tokens)
+        Ok(nested_expr(self.room, tokens)?.into_inner())
     }
 }
 
@@ -86,7 +87,7 @@ pub struct Condition {
 }
 
 impl Rule for Condition {
-    type Out = Expr;
+    type Out = Boxed<Expr>;
 
     ghost use Rattle.setl_parse_reading.specs.code.ReadExpressions.{nested, condition};
 
@@ -95,7 +96,7 @@ impl Rule for Condition {
     ghost reader = { λ s. condition s.room (nested s.room) };
 
     #[tactic(auto, unfolding(setl_parse_reading::specs::code::ReadExpressions::condition))]
-    fn read(&self, tokens: &mut Cursor<'_>) -> Result<Expr, Fault> {
+    fn read(&self, tokens: &mut Cursor<'_>) -> Result<Boxed<Expr>, Fault> {
         tokens.expect(Kind::Bar)?;
         nested_expr(self.room, tokens)
     }
@@ -127,9 +128,9 @@ pub fn iters(room: usize, tokens: &mut Cursor<'_>) -> Result<Items<Iter>, Fault>
 pub fn braces(room: usize, tokens: &mut Cursor<'_>) -> Result<Selector, Fault>
     ensures { Reads (spec.braces room (spec.nested room) tokens.old) result tokens.new }
 {
-    Grammar {
+    let grammar = Grammar {
         room,
         inside: nested,
-    }
-    .braces(tokens)
+    };
+    Ok(grammar.braces(tokens)?.into_inner())
 }

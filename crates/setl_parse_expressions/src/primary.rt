@@ -5,20 +5,21 @@
 
 ghost use Rattle.std.specs.Prelude.{◌≡◌, ◌-◌, [], suc};
 ghost use Rattle.setl_tree.specs.declared.kind.Kind.TheVariants as k;
-ghost use Rattle.setl_parse_reading.specs.code.Reading.{Reads};
+ghost use Rattle.setl_tree.specs.Operators as table;
+ghost use Rattle.setl_parse_reading.specs.code.Reading.{Reads, one_of};
 ghost use Rattle.setl_parse_reading.specs.code.ReadExpressions as spec;
 ghost use Rattle.setl_parse_reading.specs.code.ReadExpressions.{nested};
-ghost use Rattle.setl_parse_cursor.specs.code.Behind as behind;
 ghost use Rattle.setl_parse_expressions.specs.code.Nests.{Nests, reader_of};
 ghost use Rattle.setl_parse_expressions.specs.code.Parts as parts;
 
 use crate::chain::{Chain, chain_from};
 use crate::grammar::{Grammar, Part};
-use crate::inner::{BoxedRule, ExprRule, InnerRule};
-use crate::made::{constant, prefixed, selected};
+use crate::inner::{BoxedRule, InnerRule};
+use crate::made::{self, constant, one_expr, prefixed, selected};
 use setl_parse_cursor::{
-    Cursor, NotRule, PrefixRule, Repeated, Rule, SeparatedRule, begins_selector, enclosed,
-    followed, many, more_onto, one, open_quantifier, quantifier, relation_op, same_kind, with_many,
+    Cursor, NotRule, PrefixRule, Repeated, Rule, begins_selector, enclosed, followed, held, many,
+    more_boxed_onto, open_quantifier, quantifier, relation_op, same_kind, separated_boxed,
+    with_many_boxed,
 };
 use setl_parse_reading::Fault;
 use setl_tree::{Boxed, Expr, Items, Kind, Prefix, Selector};
@@ -31,7 +32,7 @@ struct SelectorRule<'g, F> {
 
 impl<'g, F: Fn(&mut Cursor<'_>, usize, Part) -> Result<Boxed<Expr>, Fault>> Rule
     for SelectorRule<'g, F> {
-    type Out = Selector;
+    type Out = Boxed<Selector>;
 
     ghost use Rattle.std.specs.Prelude.{◌-◌};
     ghost use Rattle.setl_parse_reading.specs.code.ReadExpressions.{nested, selector};
@@ -42,7 +43,7 @@ impl<'g, F: Fn(&mut Cursor<'_>, usize, Part) -> Result<Boxed<Expr>, Fault>> Rule
     ghost reader = { λ s. selector s.grammar.now.room (nested s.grammar.now.room) };
 
     #[tactic(auto, unfolding(setl_parse_reading::specs::code::ReadExpressions::selector))]
-    fn read(&self, tokens: &mut Cursor<'_>) -> Result<Selector, Fault> {
+    fn read(&self, tokens: &mut Cursor<'_>) -> Result<Boxed<Selector>, Fault> {
         if same_kind(tokens.kind(), Kind::LeftParen) {
             tokens.open(self.grammar.room, Kind::LeftParen)?;
             return self.grammar.round(tokens);
@@ -69,6 +70,19 @@ fn read_prefixes(tokens: &mut Cursor<'_>) -> Result<Items<Prefix>, Fault>
     ensures { Reads (spec.prefixes tokens.old) result tokens.new }
 {
     many(&PrefixRule, tokens)
+}
+
+/// A word that is an expression by itself.
+#[inline(never)]
+#[tactic(auto, unfolding(setl_parse_reading::specs::code::Reading::one_of))]
+fn word(tokens: &mut Cursor<'_>) -> Result<Boxed<Expr>, Fault>
+    ensures { Reads (one_of table.constant tokens.old) result tokens.new }
+{
+    let Some(word) = constant(tokens.kind()) else {
+        return Err(tokens.refuse());
+    };
+    tokens.pass();
+    Ok(Boxed::new(tokens.alloc(), word)?)
 }
 
 /// An operand with its prefixes.
@@ -133,21 +147,25 @@ impl<'g, F: Fn(&mut Cursor<'_>, usize, Part) -> Result<Boxed<Expr>, Fault>> Rule
 impl<F: Fn(&mut Cursor<'_>, usize, Part) -> Result<Boxed<Expr>, Fault>> Grammar<F> {
     /// A slice behind `( expr ..`.
     #[tactic(auto, unfolding(setl_parse_reading::specs::code::ReadExpressions::slice))]
-    fn slice(&self, from: Boxed<Expr>, tokens: &mut Cursor<'_>) -> Result<Selector, Fault>
+    fn slice(&self, from: Boxed<Expr>, tokens: &mut Cursor<'_>) -> Result<Boxed<Selector>, Fault>
         requires { Nests self.now.room (F.pre self.now.inside) (F.post self.now.inside) }
         ensures { Reads (spec.slice self.now.room (nested self.now.room) from tokens.old) result tokens.new }
     {
         if same_kind(tokens.kind(), Kind::RightParen) {
             let from = followed(from, Kind::RightParen, tokens)?;
-            return Ok(Selector::Slice(from, None));
+            return made::slice(tokens.alloc(), from, None);
         }
-        let to = self.boxed_before(Kind::RightParen, tokens)?;
-        Ok(Selector::Slice(from, Some(to)))
+        let (from, to) = held(from, self.boxed_before(Kind::RightParen, tokens))?;
+        made::slice(tokens.alloc(), from, Some(to))
     }
 
     /// What stands behind `( expr`.
     #[tactic(auto, unfolding(setl_parse_reading::specs::code::ReadExpressions::arguments))]
-    fn arguments(&self, first: Boxed<Expr>, tokens: &mut Cursor<'_>) -> Result<Selector, Fault>
+    fn arguments(
+        &self,
+        first: Boxed<Expr>,
+        tokens: &mut Cursor<'_>,
+    ) -> Result<Boxed<Selector>, Fault>
         requires { Nests self.now.room (F.pre self.now.inside) (F.post self.now.inside) }
         ensures { Reads (spec.arguments self.now.room (nested self.now.room) first tokens.old) result tokens.new }
     {
@@ -155,20 +173,21 @@ impl<F: Fn(&mut Cursor<'_>, usize, Part) -> Result<Boxed<Expr>, Fault>> Grammar<
             let first = followed(first, Kind::Dots, tokens)?;
             return self.slice(first, tokens);
         }
-        let first = one(tokens.alloc(), first.into_inner())?;
-        let all = more_onto(first, &ExprRule { grammar: self }, tokens)?;
-        Ok(Selector::Round(followed(all, Kind::RightParen, tokens)?))
+        let first = one_expr(tokens.alloc(), first)?;
+        let all = more_boxed_onto(first, &BoxedRule { grammar: self }, tokens)?;
+        let all = followed(all, Kind::RightParen, tokens)?;
+        made::round(tokens.alloc(), all)
     }
 
     /// What stands behind `(`.
     #[tactic(auto, unfolding(setl_parse_reading::specs::code::ReadExpressions::round))]
-    fn round(&self, tokens: &mut Cursor<'_>) -> Result<Selector, Fault>
+    fn round(&self, tokens: &mut Cursor<'_>) -> Result<Boxed<Selector>, Fault>
         requires { Nests self.now.room (F.pre self.now.inside) (F.post self.now.inside) }
         ensures { Reads (spec.round self.now.room (nested self.now.room) tokens.old) result tokens.new }
     {
         if same_kind(tokens.kind(), Kind::RightParen) {
             tokens.expect(Kind::RightParen)?;
-            return Ok(Selector::Round(Items::new(tokens.alloc())));
+            return made::round(tokens.alloc(), Items::new(tokens.alloc()));
         }
         let first = self.boxed(tokens)?;
         self.arguments(first, tokens)
@@ -176,15 +195,14 @@ impl<F: Fn(&mut Cursor<'_>, usize, Part) -> Result<Boxed<Expr>, Fault>> Grammar<
 
     /// `{x, ..}` behind a primary expression.
     #[tactic(auto, unfolding(setl_parse_reading::specs::code::ReadExpressions::braces))]
-    pub fn braces(&self, tokens: &mut Cursor<'_>) -> Result<Selector, Fault>
+    pub fn braces(&self, tokens: &mut Cursor<'_>) -> Result<Boxed<Selector>, Fault>
         requires { Nests self.now.room (F.pre self.now.inside) (F.post self.now.inside) }
         ensures { Reads (spec.braces self.now.room (nested self.now.room) tokens.old) result tokens.new }
     {
-        let all = SeparatedRule {
-            item: ExprRule { grammar: self },
-        };
-        let all = enclosed(self.room, Kind::LeftBrace, &all, Kind::RightBrace, tokens)?;
-        Ok(Selector::Braces(all))
+        tokens.open(self.room, Kind::LeftBrace)?;
+        let all = separated_boxed(&BoxedRule { grammar: self }, tokens)?;
+        let all = followed(all, Kind::RightBrace, tokens)?;
+        made::braces(tokens.alloc(), all)
     }
 
     /// An expression in round brackets.
@@ -209,8 +227,7 @@ impl<F: Fn(&mut Cursor<'_>, usize, Part) -> Result<Boxed<Expr>, Fault>> Grammar<
         ensures { Reads (parts.branches (nested self.now.room).expr tokens.old) result tokens.new }
     {
         let value = self.boxed_before(Kind::Else, tokens)?;
-        let other = self.boxed_before(Kind::End, tokens)?;
-        Ok((value, other))
+        Ok(held(value, self.boxed_before(Kind::End, tokens))?)
     }
 
     /// `if condition then value else other end`
@@ -221,8 +238,8 @@ impl<F: Fn(&mut Cursor<'_>, usize, Part) -> Result<Boxed<Expr>, Fault>> Grammar<
     {
         tokens.open(self.room, Kind::If)?;
         let condition = self.boxed_before(Kind::Then, tokens)?;
-        let (value, other) = self.branches(tokens)?;
-        Ok(Boxed::new(tokens.alloc(), Expr::If(condition, value, other))?)
+        let (condition, (value, other)) = held(condition, self.branches(tokens))?;
+        made::choice(tokens.alloc(), condition, value, other)
     }
 
     /// A set in its brackets.
@@ -233,7 +250,7 @@ impl<F: Fn(&mut Cursor<'_>, usize, Part) -> Result<Boxed<Expr>, Fault>> Grammar<
     {
         let inner = InnerRule { grammar: self };
         let inner = enclosed(self.room, Kind::LeftBrace, &inner, Kind::RightBrace, tokens)?;
-        Ok(Boxed::new(tokens.alloc(), Expr::Set(inner))?)
+        made::set(tokens.alloc(), inner)
     }
 
     /// A tuple in its brackets.
@@ -250,10 +267,11 @@ impl<F: Fn(&mut Cursor<'_>, usize, Part) -> Result<Boxed<Expr>, Fault>> Grammar<
             Kind::RightBracket,
             tokens,
         )?;
-        Ok(Boxed::new(tokens.alloc(), Expr::Tuple(inner))?)
+        made::tuple(tokens.alloc(), inner)
     }
 
     /// A number.
+    #[inline(never)]
     fn number(&self, tokens: &mut Cursor<'_>) -> Result<Boxed<Expr>, Fault>
         requires { Nests self.now.room (F.pre self.now.inside) (F.post self.now.inside) }
         ensures { Reads (spec.primary_by self.now.room (nested self.now.room) k.Number tokens.old) result tokens.new }
@@ -264,6 +282,7 @@ impl<F: Fn(&mut Cursor<'_>, usize, Part) -> Result<Boxed<Expr>, Fault>> Grammar<
     }
 
     /// A string.
+    #[inline(never)]
     fn string(&self, tokens: &mut Cursor<'_>) -> Result<Boxed<Expr>, Fault>
         requires { Nests self.now.room (F.pre self.now.inside) (F.post self.now.inside) }
         ensures { Reads (spec.primary_by self.now.room (nested self.now.room) k.StringLiteral tokens.old) result tokens.new }
@@ -274,6 +293,7 @@ impl<F: Fn(&mut Cursor<'_>, usize, Part) -> Result<Boxed<Expr>, Fault>> Grammar<
     }
 
     /// A name.
+    #[inline(never)]
     fn name(&self, tokens: &mut Cursor<'_>) -> Result<Boxed<Expr>, Fault>
         requires { Nests self.now.room (F.pre self.now.inside) (F.post self.now.inside) }
         ensures { Reads (spec.primary_by self.now.room (nested self.now.room) k.Name tokens.old) result tokens.new }
@@ -283,7 +303,7 @@ impl<F: Fn(&mut Cursor<'_>, usize, Part) -> Result<Boxed<Expr>, Fault>> Grammar<
     }
 
     /// A primary expression.
-    #[tactic(auto, unfolding(setl_parse_reading::specs::code::ReadExpressions::primary, setl_parse_reading::specs::code::Reading::one_of))]
+    #[tactic(auto, unfolding(setl_parse_reading::specs::code::ReadExpressions::primary))]
     fn primary(&self, tokens: &mut Cursor<'_>) -> Result<Boxed<Expr>, Fault>
         requires { Nests self.now.room (F.pre self.now.inside) (F.post self.now.inside) }
         ensures { Reads (spec.primary self.now.room (nested self.now.room) tokens.old) result tokens.new }
@@ -296,13 +316,7 @@ impl<F: Fn(&mut Cursor<'_>, usize, Part) -> Result<Boxed<Expr>, Fault>> Grammar<
             Kind::If => self.if_expr(tokens),
             Kind::LeftBrace => self.set(tokens),
             Kind::LeftBracket => self.tuple(tokens),
-            kind => {
-                let Some(word) = constant(kind) else {
-                    return Err(tokens.refuse());
-                };
-                tokens.pass();
-                Ok(Boxed::new(tokens.alloc(), word)?)
-            }
+            _ => word(tokens),
         }
     }
 
@@ -316,7 +330,8 @@ impl<F: Fn(&mut Cursor<'_>, usize, Part) -> Result<Boxed<Expr>, Fault>> Grammar<
         if !begins_selector(tokens.kind()) {
             return Ok(primary);
         }
-        let (primary, selectors) = with_many(primary, &SelectorRule { grammar: self }, tokens)?;
+        let selector = SelectorRule { grammar: self };
+        let (primary, selectors) = with_many_boxed(primary, &selector, tokens)?;
         selected(tokens.alloc(), primary, selectors)
     }
 
@@ -415,19 +430,6 @@ impl<F: Fn(&mut Cursor<'_>, usize, Part) -> Result<Boxed<Expr>, Fault>> Grammar<
         chain_from(7, &sum, a, tokens)
     }
 
-    /// The left side of a comparison, and its right side in a box.
-    fn compared_with<T: Drop>(
-        &self,
-        left: T,
-        tokens: &mut Cursor<'_>,
-    ) -> Result<(T, Boxed<Expr>), Fault>
-        requires { Nests self.now.room (F.pre self.now.inside) (F.post self.now.inside) }
-        ensures { Reads (behind.beside left (spec.e7 self.now.room (nested self.now.room)) tokens.old) result tokens.new }
-    {
-        let right = self.e7(tokens)?;
-        Ok((left, right))
-    }
-
     /// What goes on from the left side of a comparison.
     #[inline(never)]
     #[tactic(auto, unfolding(setl_parse_reading::specs::code::ReadExpressions::compared, setl_parse_reading::specs::code::Reading::one_of))]
@@ -439,8 +441,8 @@ impl<F: Fn(&mut Cursor<'_>, usize, Part) -> Result<Boxed<Expr>, Fault>> Grammar<
             return Ok(a);
         };
         tokens.pass();
-        let (a, b) = self.compared_with(a, tokens)?;
-        Ok(Boxed::new(tokens.alloc(), Expr::Compare(a, op, b))?)
+        let (a, b) = held(a, self.e7(tokens))?;
+        made::compare(tokens.alloc(), a, op, b)
     }
 
     /// A comparison, or what comparisons compare.
@@ -526,12 +528,10 @@ impl<F: Fn(&mut Cursor<'_>, usize, Part) -> Result<Boxed<Expr>, Fault>> Grammar<
         requires { Nests self.now.room (F.pre self.now.inside) (F.post self.now.inside) }
         ensures { Reads (parts.go_on self.now.room (nested self.now.room) (record { nots = []; prefixes = [] }) primary tokens.old) result tokens.new }
     {
-        let alloc = tokens.alloc();
-        let before = Before {
-            nots: Items::new(alloc),
-            prefixes: Items::new(alloc),
-        };
-        self.go_on(before, primary, tokens)
+        let a = self.selection(primary, tokens)?;
+        let a = self.after_operand(a, tokens)?;
+        let a = self.compared(a, tokens)?;
+        self.after_comparison(a, tokens)
     }
 
     /// An expression that is no quantifier. While its primary expression is read, nothing else is kept than what stands
@@ -603,8 +603,7 @@ impl<F: Fn(&mut Cursor<'_>, usize, Part) -> Result<Boxed<Expr>, Fault>> Grammar<
         let quantifier = open_quantifier(self.room, tokens)?;
         let over = self.iters(tokens)?;
         let (over, condition) = self.boxed_behind(over, Kind::Bar, tokens)?;
-        let made = Expr::Quantified(quantifier, over, condition);
-        Ok(Boxed::new(tokens.alloc(), made)?)
+        made::quantified(tokens.alloc(), quantifier, over, condition)
     }
 
     /// An expression.

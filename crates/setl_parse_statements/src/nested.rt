@@ -7,15 +7,16 @@ ghost use Rattle.setl_parse_reading.specs.code.ReadStatements.{nested_stmts};
 ghost use Rattle.setl_parse_statements.specs.code.Nests.{NestsStmts};
 ghost use Rattle.setl_parse_statements.specs.code.Parts as parts;
 
+use crate::made::{branch, conditional, for_loop, stmt, while_loop};
 use crate::statements::{
     behind_name, ended, print_stmt, read_stmt, return_stmt, simple_stmt, tuple_assign,
 };
 use setl_parse_cursor::{
-    Cursor, Repeated, Rule, followed, many, same_kind, with_many, with_optional,
+    Cursor, Repeated, Rule, followed, held, many_boxed, same_kind, with_many_boxed, with_optional,
 };
 use setl_parse_expressions::{Condition, iters, nested_expr};
 use setl_parse_reading::Fault;
-use setl_tree::{Branch, Expr, Items, Iter, Kind, Stmt, StmtKind};
+use setl_tree::{Boxed, Branch, Expr, Items, Iter, Kind, Stmt, StmtKind};
 
 /// The rules of statements where so many nestings may still open. Each takes the statements that stand one nesting
 /// deeper from `deep`, and is so proved by itself.
@@ -54,7 +55,7 @@ struct ElseifRule<'s, G> {
 }
 
 impl<'s, G: Fn(&mut Cursor<'_>, usize) -> Result<Items<Stmt>, Fault>> Rule for ElseifRule<'s, G> {
-    type Out = Branch;
+    type Out = Boxed<Branch>;
 
     ghost use Rattle.setl_tree.specs.declared.kind.Kind.TheVariants as k;
     ghost use Rattle.setl_parse_reading.specs.code.Reading.{expect, ◌>>◌};
@@ -65,7 +66,7 @@ impl<'s, G: Fn(&mut Cursor<'_>, usize) -> Result<Items<Stmt>, Fault>> Rule for E
 
     ghost reader = { λ s. expect k.Elseif >> branch s.statements.now.room (nested_stmts s.statements.now.room) };
 
-    fn read(&self, tokens: &mut Cursor<'_>) -> Result<Branch, Fault> {
+    fn read(&self, tokens: &mut Cursor<'_>) -> Result<Boxed<Branch>, Fault> {
         tokens.expect(Kind::Elseif)?;
         self.statements.branch(tokens)
     }
@@ -125,7 +126,7 @@ struct StmtRule<'s, G> {
 }
 
 impl<'s, G: Fn(&mut Cursor<'_>, usize) -> Result<Items<Stmt>, Fault>> Rule for StmtRule<'s, G> {
-    type Out = Stmt;
+    type Out = Boxed<Stmt>;
 
     ghost use Rattle.setl_tree.specs.declared.kind.Kind.TheVariants as k;
     ghost use Rattle.setl_parse_reading.specs.code.Reading.{is};
@@ -137,10 +138,10 @@ impl<'s, G: Fn(&mut Cursor<'_>, usize) -> Result<Items<Stmt>, Fault>> Rule for S
     ghost reader = { λ s. stmt s.statements.now.room (nested_stmts s.statements.now.room) };
 
     #[tactic(auto, unfolding(setl_parse_reading::specs::code::ReadStatements::stmt))]
-    fn read(&self, tokens: &mut Cursor<'_>) -> Result<Stmt, Fault> {
+    fn read(&self, tokens: &mut Cursor<'_>) -> Result<Boxed<Stmt>, Fault> {
         let line = tokens.line();
         let kind = self.statements.stmt_kind(tokens)?;
-        Ok(Stmt { line, kind })
+        stmt(tokens.alloc(), line, kind)
     }
 }
 
@@ -155,7 +156,11 @@ impl<'s, G: Fn(&mut Cursor<'_>, usize) -> Result<Items<Stmt>, Fault>> Repeated f
 }
 
 /// The iterators of a loop, and its condition, behind `(`.
-fn for_head(room: usize, tokens: &mut Cursor<'_>) -> Result<(Items<Iter>, Option<Expr>), Fault>
+#[inline(never)]
+fn for_head(
+    room: usize,
+    tokens: &mut Cursor<'_>,
+) -> Result<(Items<Iter>, Option<Boxed<Expr>>), Fault>
     ensures { Reads (parts.for_head room tokens.old) result tokens.new }
 {
     tokens.expect(Kind::For)?;
@@ -178,8 +183,7 @@ impl<G: Fn(&mut Cursor<'_>, usize) -> Result<Items<Stmt>, Fault>> Statements<G> 
         requires { NestsStmts self.now.room (G.pre self.now.deep) (G.post self.now.deep) }
         ensures { Reads (parts.guarding head (nested_stmts self.now.room) tokens.old) result tokens.new }
     {
-        let body = self.deeper(tokens)?;
-        Ok((head, body))
+        Ok(held(head, self.deeper(tokens))?)
     }
 
     /// The head of a loop, and its statements up to its end.
@@ -198,13 +202,13 @@ impl<G: Fn(&mut Cursor<'_>, usize) -> Result<Items<Stmt>, Fault>> Statements<G> 
 
     /// A condition with the statements that it guards.
     #[tactic(auto, unfolding(setl_parse_reading::specs::code::ReadStatements::branch))]
-    fn branch(&self, tokens: &mut Cursor<'_>) -> Result<Branch, Fault>
+    fn branch(&self, tokens: &mut Cursor<'_>) -> Result<Boxed<Branch>, Fault>
         requires { NestsStmts self.now.room (G.pre self.now.deep) (G.post self.now.deep) }
         ensures { Reads (spec.branch self.now.room (nested_stmts self.now.room) tokens.old) result tokens.new }
     {
         let condition = followed(nested_expr(self.room, tokens)?, Kind::Then, tokens)?;
         let (condition, body) = self.guarding(condition, tokens)?;
-        Ok(Branch { condition, body })
+        branch(tokens.alloc(), condition, body)
     }
 
     /// The first branch of a conditional statement, and what stands behind it.
@@ -217,7 +221,7 @@ impl<G: Fn(&mut Cursor<'_>, usize) -> Result<Items<Stmt>, Fault>> Statements<G> 
         requires { NestsStmts self.now.room (G.pre self.now.deep) (G.post self.now.deep) }
         ensures { Reads (parts.branching first self.now.room (nested_stmts self.now.room) tokens.old) result tokens.new }
     {
-        let front = with_many(first, &ElseifRule { statements: self }, tokens)?;
+        let front = with_many_boxed(first, &ElseifRule { statements: self }, tokens)?;
         let all = with_optional(front, &ElseRule { statements: self }, tokens)?;
         let ((first, others), last) = ended(all, Kind::If, tokens)?;
         Ok((first, others, last))
@@ -225,42 +229,42 @@ impl<G: Fn(&mut Cursor<'_>, usize) -> Result<Items<Stmt>, Fault>> Statements<G> 
 
     /// A conditional statement.
     #[tactic(auto, unfolding(setl_parse_reading::specs::code::ReadStatements::if_stmt))]
-    fn if_stmt(&self, tokens: &mut Cursor<'_>) -> Result<StmtKind, Fault>
+    fn if_stmt(&self, tokens: &mut Cursor<'_>) -> Result<Boxed<StmtKind>, Fault>
         requires { NestsStmts self.now.room (G.pre self.now.deep) (G.post self.now.deep) }
         ensures { Reads (spec.if_stmt self.now.room (nested_stmts self.now.room) tokens.old) result tokens.new }
     {
         tokens.open(self.room, Kind::If)?;
         let first = self.branch(tokens)?;
         let (first, others, last) = self.branching(first, tokens)?;
-        Ok(StmtKind::If(first, others, last))
+        conditional(tokens.alloc(), first, others, last)
     }
 
     /// A loop over iterators behind `(`.
     #[tactic(auto, unfolding(setl_parse_reading::specs::code::ReadStatements::for_loop))]
-    fn for_loop(&self, tokens: &mut Cursor<'_>) -> Result<StmtKind, Fault>
+    fn for_loop(&self, tokens: &mut Cursor<'_>) -> Result<Boxed<StmtKind>, Fault>
         requires { NestsStmts self.now.room (G.pre self.now.deep) (G.post self.now.deep) }
         ensures { Reads (spec.for_loop self.now.room (nested_stmts self.now.room) tokens.old) result tokens.new }
     {
         let head = for_head(self.room, tokens)?;
         let (head, body) = self.looping(head, Kind::For, tokens)?;
-        Ok(StmtKind::For(head.0, head.1, body))
+        for_loop(tokens.alloc(), head.0, head.1, body)
     }
 
     /// A loop under a condition behind `(`.
     #[tactic(auto, unfolding(setl_parse_reading::specs::code::ReadStatements::while_loop))]
-    fn while_loop(&self, tokens: &mut Cursor<'_>) -> Result<StmtKind, Fault>
+    fn while_loop(&self, tokens: &mut Cursor<'_>) -> Result<Boxed<StmtKind>, Fault>
         requires { NestsStmts self.now.room (G.pre self.now.deep) (G.post self.now.deep) }
         ensures { Reads (spec.while_loop self.now.room (nested_stmts self.now.room) tokens.old) result tokens.new }
     {
         tokens.expect(Kind::While)?;
         let condition = followed(nested_expr(self.room, tokens)?, Kind::RightParen, tokens)?;
         let (condition, body) = self.looping(condition, Kind::While, tokens)?;
-        Ok(StmtKind::While(condition, body))
+        while_loop(tokens.alloc(), condition, body)
     }
 
     /// A loop.
     #[tactic(auto, unfolding(setl_parse_reading::specs::code::ReadStatements::for_or_while))]
-    fn loop_stmt(&self, tokens: &mut Cursor<'_>) -> Result<StmtKind, Fault>
+    fn loop_stmt(&self, tokens: &mut Cursor<'_>) -> Result<Boxed<StmtKind>, Fault>
         requires { NestsStmts self.now.room (G.pre self.now.deep) (G.post self.now.deep) }
         ensures { Reads (spec.loop self.now.room (nested_stmts self.now.room) tokens.old) result tokens.new }
     {
@@ -273,7 +277,7 @@ impl<G: Fn(&mut Cursor<'_>, usize) -> Result<Items<Stmt>, Fault>> Statements<G> 
 
     /// A statement without its line.
     #[tactic(auto, unfolding(setl_parse_reading::specs::code::ReadStatements::stmt_kind))]
-    fn stmt_kind(&self, tokens: &mut Cursor<'_>) -> Result<StmtKind, Fault>
+    fn stmt_kind(&self, tokens: &mut Cursor<'_>) -> Result<Boxed<StmtKind>, Fault>
         requires { NestsStmts self.now.room (G.pre self.now.deep) (G.post self.now.deep) }
         ensures { Reads (spec.stmt_kind self.now.room (nested_stmts self.now.room) tokens.old) result tokens.new }
     {
@@ -298,7 +302,7 @@ impl<G: Fn(&mut Cursor<'_>, usize) -> Result<Items<Stmt>, Fault>> Statements<G> 
         requires { NestsStmts self.now.room (G.pre self.now.deep) (G.post self.now.deep) }
         ensures { Reads (spec.stmts self.now.room tokens.old) result tokens.new }
     {
-        many(&StmtRule { statements: self }, tokens)
+        many_boxed(&StmtRule { statements: self }, tokens)
     }
 }
 

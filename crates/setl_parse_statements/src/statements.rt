@@ -14,7 +14,8 @@ use setl_parse_cursor::{
 };
 use setl_parse_expressions::{NestedExpr, braces, expr};
 use setl_parse_reading::Fault;
-use setl_tree::{BinaryOp, Expr, FromEnd, Items, Kind, Place, Selector, StmtKind, Text};
+use setl_tree::{BinaryOp, Boxed, Expr, FromEnd, Items, Kind, Place, Selector, StmtKind, Text};
+use std::alloc::Global;
 
 /// The operator that may stand before `:=`.
 #[tactic(auto, unfolding(setl_tree::specs::Operators::update_op))]
@@ -78,6 +79,14 @@ fn is_simple(kind: Kind) -> bool
     )
 }
 
+/// A statement without its line, in a box. An error is want of memory.
+pub fn boxed(alloc: Global, kind: StmtKind) -> Result<Boxed<StmtKind>, Fault>
+    ensures ok { IfOk result (λ k. k ≡ kind) }
+    ensures err { IfErr result (λ e. e ≡ Fault.Memory) }
+{
+    Ok(Boxed::new(alloc, kind)?)
+}
+
 /// Reads `end`, maybe this word, and `;`.
 #[tactic(auto, unfolding(setl_parse_reading::specs::code::ReadStatements::ending))]
 pub fn ending(word: Kind, tokens: &mut Cursor<'_>) -> Result<(), Fault>
@@ -93,6 +102,7 @@ pub fn ending(word: Kind, tokens: &mut Cursor<'_>) -> Result<(), Fault>
 }
 
 /// What was read, behind which `end`, maybe this word, and `;` stand.
+#[inline(never)]
 pub fn ended<T: Drop>(head: T, word: Kind, tokens: &mut Cursor<'_>) -> Result<T, Fault>
     ensures { Reads (parts.ended head word tokens.old) result tokens.new }
 {
@@ -195,16 +205,16 @@ impl Rule for PlaceRule {
 
 /// `:= value;` behind a place.
 #[tactic(auto, unfolding(setl_parse_reading::specs::code::ReadStatements::assigned))]
-fn assigned(room: usize, place: Place, tokens: &mut Cursor<'_>) -> Result<StmtKind, Fault>
+fn assigned(room: usize, place: Place, tokens: &mut Cursor<'_>) -> Result<Boxed<StmtKind>, Fault>
     ensures { Reads (spec.assigned room place tokens.old) result tokens.new }
 {
     let (place, value) = valued(place, room, tokens)?;
-    Ok(StmtKind::Assign(place, value))
+    boxed(tokens.alloc(), StmtKind::Assign(place, value))
 }
 
 /// `op := value;` behind a place.
 #[tactic(auto, unfolding(setl_parse_reading::specs::code::ReadStatements::updated, setl_parse_reading::specs::code::Reading::one_of))]
-fn updated(room: usize, place: Place, tokens: &mut Cursor<'_>) -> Result<StmtKind, Fault>
+fn updated(room: usize, place: Place, tokens: &mut Cursor<'_>) -> Result<Boxed<StmtKind>, Fault>
     ensures { Reads (spec.updated room place tokens.old) result tokens.new }
 {
     let Some(op) = update_op(tokens.kind()) else {
@@ -212,12 +222,12 @@ fn updated(room: usize, place: Place, tokens: &mut Cursor<'_>) -> Result<StmtKin
     };
     tokens.pass();
     let (place, value) = valued(place, room, tokens)?;
-    Ok(StmtKind::Update(place, op, value))
+    boxed(tokens.alloc(), StmtKind::Update(place, op, value))
 }
 
 /// What stands behind a place.
 #[tactic(auto, unfolding(setl_parse_reading::specs::code::ReadStatements::stored))]
-fn stored(room: usize, place: Place, tokens: &mut Cursor<'_>) -> Result<StmtKind, Fault>
+fn stored(room: usize, place: Place, tokens: &mut Cursor<'_>) -> Result<Boxed<StmtKind>, Fault>
     ensures { Reads (spec.stored room place tokens.old) result tokens.new }
 {
     if same_kind(tokens.kind(), Kind::Assign) {
@@ -247,7 +257,7 @@ fn selected_place(
     name: Text,
     first: Selector,
     tokens: &mut Cursor<'_>,
-) -> Result<StmtKind, Fault>
+) -> Result<Boxed<StmtKind>, Fault>
     ensures { Reads (spec.selected_place room name first tokens.old) result tokens.new }
 {
     let first = one(tokens.alloc(), first)?;
@@ -262,29 +272,32 @@ fn after_arguments(
     name: Text,
     all: Items<Expr>,
     tokens: &mut Cursor<'_>,
-) -> Result<StmtKind, Fault>
+) -> Result<Boxed<StmtKind>, Fault>
     ensures { Reads (spec.after_arguments room name all tokens.old) result tokens.new }
 {
     if same_kind(tokens.kind(), Kind::Semicolon) {
         let (name, all) = followed((name, all), Kind::Semicolon, tokens)?;
-        return Ok(StmtKind::Call(name, all));
+        return boxed(tokens.alloc(), StmtKind::Call(name, all));
     }
     selected_place(room, name, Selector::Round(all), tokens)
 }
 
 /// What stands behind `name(` where `)` does.
 #[tactic(auto, unfolding(setl_parse_reading::specs::code::ReadStatements::no_arguments))]
-fn no_arguments(room: usize, name: Text, tokens: &mut Cursor<'_>) -> Result<StmtKind, Fault>
+fn no_arguments(room: usize, name: Text, tokens: &mut Cursor<'_>) -> Result<Boxed<StmtKind>, Fault>
     ensures { Reads (spec.no_arguments room name tokens.old) result tokens.new }
 {
     let name = followed(name, Kind::RightParen, tokens)?;
     let name = followed(name, Kind::Semicolon, tokens)?;
-    Ok(StmtKind::Call(name, Items::new(tokens.alloc())))
+    boxed(
+        tokens.alloc(),
+        StmtKind::Call(name, Items::new(tokens.alloc())),
+    )
 }
 
 /// What stands behind `name(`.
 #[tactic(auto, unfolding(setl_parse_reading::specs::code::ReadStatements::called))]
-fn called(room: usize, name: Text, tokens: &mut Cursor<'_>) -> Result<StmtKind, Fault>
+fn called(room: usize, name: Text, tokens: &mut Cursor<'_>) -> Result<Boxed<StmtKind>, Fault>
     ensures { Reads (spec.called room name tokens.old) result tokens.new }
 {
     if same_kind(tokens.kind(), Kind::RightParen) {
@@ -300,7 +313,11 @@ fn called(room: usize, name: Text, tokens: &mut Cursor<'_>) -> Result<StmtKind, 
 
 /// What stands behind a name with no round bracket.
 #[tactic(auto, unfolding(setl_parse_reading::specs::code::ReadStatements::braced_or_alone))]
-fn braced_or_alone(room: usize, name: Text, tokens: &mut Cursor<'_>) -> Result<StmtKind, Fault>
+fn braced_or_alone(
+    room: usize,
+    name: Text,
+    tokens: &mut Cursor<'_>,
+) -> Result<Boxed<StmtKind>, Fault>
     ensures { Reads (spec.braced_or_alone room name tokens.old) result tokens.new }
 {
     if same_kind(tokens.kind(), Kind::LeftBrace) {
@@ -313,7 +330,11 @@ fn braced_or_alone(room: usize, name: Text, tokens: &mut Cursor<'_>) -> Result<S
 
 /// A call or a place behind its name.
 #[tactic(auto, unfolding(setl_parse_reading::specs::code::ReadStatements::called_or_stored))]
-fn called_or_stored(room: usize, name: Text, tokens: &mut Cursor<'_>) -> Result<StmtKind, Fault>
+fn called_or_stored(
+    room: usize,
+    name: Text,
+    tokens: &mut Cursor<'_>,
+) -> Result<Boxed<StmtKind>, Fault>
     ensures { Reads (spec.called_or_stored room name tokens.old) result tokens.new }
 {
     if same_kind(tokens.kind(), Kind::LeftParen) {
@@ -325,7 +346,7 @@ fn called_or_stored(room: usize, name: Text, tokens: &mut Cursor<'_>) -> Result<
 
 /// `from place;` behind a name.
 #[tactic(auto, unfolding(setl_parse_reading::specs::code::ReadStatements::taken, setl_parse_reading::specs::code::Reading::one_of))]
-fn taken(room: usize, name: Text, tokens: &mut Cursor<'_>) -> Result<StmtKind, Fault>
+fn taken(room: usize, name: Text, tokens: &mut Cursor<'_>) -> Result<Boxed<StmtKind>, Fault>
     ensures { Reads (spec.taken room name tokens.old) result tokens.new }
 {
     let Some(word) = from_word(tokens.kind()) else {
@@ -334,12 +355,17 @@ fn taken(room: usize, name: Text, tokens: &mut Cursor<'_>) -> Result<StmtKind, F
     tokens.pass();
     let both = beside(name, &PlaceRule { room }, tokens)?;
     let (name, from) = followed(both, Kind::Semicolon, tokens)?;
-    Ok(StmtKind::Take(name, word, from))
+    boxed(tokens.alloc(), StmtKind::Take(name, word, from))
 }
 
 /// What stands behind a name.
+#[inline(never)]
 #[tactic(auto, unfolding(setl_parse_reading::specs::code::ReadStatements::behind_name))]
-pub fn behind_name(room: usize, name: Text, tokens: &mut Cursor<'_>) -> Result<StmtKind, Fault>
+pub fn behind_name(
+    room: usize,
+    name: Text,
+    tokens: &mut Cursor<'_>,
+) -> Result<Boxed<StmtKind>, Fault>
     ensures { Reads (spec.behind_name room name tokens.old) result tokens.new }
 {
     if from_word(tokens.kind()).is_some() {
@@ -349,39 +375,43 @@ pub fn behind_name(room: usize, name: Text, tokens: &mut Cursor<'_>) -> Result<S
 }
 
 /// `[slot, ..] := value;`
+#[inline(never)]
 #[tactic(auto, unfolding(setl_parse_reading::specs::code::ReadStatements::tuple_assign))]
-pub fn tuple_assign(room: usize, tokens: &mut Cursor<'_>) -> Result<StmtKind, Fault>
+pub fn tuple_assign(room: usize, tokens: &mut Cursor<'_>) -> Result<Boxed<StmtKind>, Fault>
     ensures { Reads (spec.tuple_assign room tokens.old) result tokens.new }
 {
     let slots = pattern(room, tokens)?;
     let (slots, value) = valued(slots, room, tokens)?;
-    Ok(StmtKind::TupleAssign(slots, value))
+    boxed(tokens.alloc(), StmtKind::TupleAssign(slots, value))
 }
 
 /// `return value;`, where the value may be left out.
+#[inline(never)]
 #[tactic(auto, unfolding(setl_parse_reading::specs::code::ReadStatements::return_stmt))]
-pub fn return_stmt(room: usize, tokens: &mut Cursor<'_>) -> Result<StmtKind, Fault>
+pub fn return_stmt(room: usize, tokens: &mut Cursor<'_>) -> Result<Boxed<StmtKind>, Fault>
     ensures { Reads (spec.return_stmt room tokens.old) result tokens.new }
 {
     tokens.expect(Kind::Return)?;
     if same_kind(tokens.kind(), Kind::Semicolon) {
         tokens.expect(Kind::Semicolon)?;
-        return Ok(StmtKind::Return(None));
+        return boxed(tokens.alloc(), StmtKind::Return(None));
     }
     let value = followed(expr(room, tokens)?, Kind::Semicolon, tokens)?;
-    Ok(StmtKind::Return(Some(value)))
+    boxed(tokens.alloc(), StmtKind::Return(Some(value)))
 }
 
 /// `print(x, ..);`
+#[inline(never)]
 #[tactic(auto, unfolding(setl_parse_reading::specs::code::ReadStatements::print_stmt))]
-pub fn print_stmt(room: usize, tokens: &mut Cursor<'_>) -> Result<StmtKind, Fault>
+pub fn print_stmt(room: usize, tokens: &mut Cursor<'_>) -> Result<Boxed<StmtKind>, Fault>
     ensures { Reads (spec.print_stmt room tokens.old) result tokens.new }
 {
     let all = ListedRule {
         close: Kind::RightParen,
         item: NestedExpr { room },
     };
-    Ok(StmtKind::Print(command(Kind::Print, room, &all, tokens)?))
+    let all = command(Kind::Print, room, &all, tokens)?;
+    boxed(tokens.alloc(), StmtKind::Print(all))
 }
 
 /// A name.
@@ -414,17 +444,20 @@ impl Repeated for NameRule {
 }
 
 /// `read(name, ..);`
+#[inline(never)]
 #[tactic(auto, unfolding(setl_parse_reading::specs::code::ReadStatements::read_stmt))]
-pub fn read_stmt(room: usize, tokens: &mut Cursor<'_>) -> Result<StmtKind, Fault>
+pub fn read_stmt(room: usize, tokens: &mut Cursor<'_>) -> Result<Boxed<StmtKind>, Fault>
     ensures { Reads (spec.read_stmt room tokens.old) result tokens.new }
 {
     let names = SeparatedRule { item: NameRule };
-    Ok(StmtKind::Read(command(Kind::Read, room, &names, tokens)?))
+    let names = command(Kind::Read, room, &names, tokens)?;
+    boxed(tokens.alloc(), StmtKind::Read(names))
 }
 
 /// A statement of one word.
+#[inline(never)]
 #[tactic(auto, unfolding(setl_parse_reading::specs::code::ReadStatements::simple_stmt, setl_parse_reading::specs::code::Reading::one_of))]
-pub fn simple_stmt(room: usize, tokens: &mut Cursor<'_>) -> Result<StmtKind, Fault>
+pub fn simple_stmt(room: usize, tokens: &mut Cursor<'_>) -> Result<Boxed<StmtKind>, Fault>
     ensures { Reads (spec.simple_stmt room tokens.old) result tokens.new }
 {
     let word = tokens.kind();
@@ -433,5 +466,5 @@ pub fn simple_stmt(room: usize, tokens: &mut Cursor<'_>) -> Result<StmtKind, Fau
     }
     tokens.pass();
     tokens.expect(Kind::Semicolon)?;
-    simple(word).ok_or(tokens.refuse())
+    boxed(tokens.alloc(), simple(word).ok_or(tokens.refuse())?)
 }

@@ -8,7 +8,7 @@ ghost use Rattle.setl_rep_updates.specs.InForm.{IsInForm};
 use crate::conversions::expect;
 use crate::holding::{bases, fitting, put_bases, put_held};
 use crate::modes::mode;
-use crate::values::{denoted, put_value};
+use crate::values::{denoted, put_form, put_value};
 use setl_modes::Mode;
 use setl_rep_bases::Bases;
 use setl_rep_forms::Held;
@@ -39,7 +39,9 @@ put | remote_smap elmt int int | [] | {[1 5] [2 6]} | 2 ; * | true/{[1 5] [2 6]}
 put | sparse_smap elmt int int | [] | {[1 5]} | 2 ; 'a' | false/{[1 5]}/{[1 5]}/sparse map 1(5)/b: 1/c:/
 add | sparse_mmap elmt int remote_set elmt int | [] | {[1 2]} | 1 ; 3 | true/{[1 2]}/{[1 2] [1 3]}/sparse map 1(remote 2 3)/b: 1 2 3/c:/
 add | remote_mmap elmt int sparse_set elmt int | [] | {} | 1 ; 3 | true/{}/{[1 3]}/remote map 1(sparse 2)/b: 1 3/c:/
-add | sparse_smap elmt int int | [] | {[1 2]} | 1 ; 3 | false/{[1 2]}/{[1 2]}/sparse map 1(2)/b: 1/c:/";
+add | sparse_smap elmt int int | [] | {[1 2]} | 1 ; 3 | false/{[1 2]}/{[1 2]}/sparse map 1(2)/b: 1/c:/
+cut | sparse_mmap elmt int remote_set elmt int | [] | {[1 2] [1 3]} | 1 ; 3 | true/{[1 2] [1 3]}/{[1 2]}/sparse map 1(remote 2)/b: 1 2 3/c:/
+cut | remote_mmap elmt int sparse_set elmt int | [] | {[1 2] [2 3]} | 1 ; 2 | true/{[1 2] [2 3]}/{[2 3]}/remote map 2(sparse 3)/b: 1 2 3/c:/";
 
 #[test]
 fn updates_leave_what_their_rows_say(rt: HostRuntime) -> Result<(), Fail> {
@@ -92,7 +94,8 @@ fn change_by(name: &str, x: Value, y: Option<Value>) -> Result<Change, AllocErro
         "less" => Ok(Change::Less(x)),
         "lessf" => Ok(Change::Lessf(x)),
         "put" => Ok(Change::Put(x, y)),
-        _ => Ok(Change::WithImage(x, y.unwrap_or(Value::Bool(false)))),
+        "add" => Ok(Change::WithImage(x, y.unwrap_or(Value::Bool(false)))),
+        _ => Ok(Change::LessImage(x, y.unwrap_or(Value::Bool(false)))),
     }
 }
 
@@ -113,10 +116,11 @@ fn put_changed(
     into: &mut Vec<u8>,
 ) -> Result<(), AllocError> {
     let mut h = fitting(rt, alloc, mode, value, bases)?;
-    put_update(alloc, mode, &mut h, change, bases, into)
+    put_update(rt, alloc, mode, &mut h, change, bases, into)
 }
 
 fn put_update(
+    rt: &impl Abort,
     alloc: Global,
     mode: &Mode,
     h: &mut Held,
@@ -127,10 +131,27 @@ fn put_update(
     requires { IsInForm bases.old 0 (mode_of mode.now) (form h.old) }
 {
     let copy = h.copy()?;
-    let made = changed(alloc, mode, h, &copy, change, bases)?;
-    put_answer(made, into)?;
+    let before = state(rt, alloc, h, bases)?;
+    let made = changed(alloc, mode, h, &copy, change, bases);
+    if made.is_err() {
+        assert_eq!(rt; state(rt, alloc, h, bases)?.as_slice(), before.as_slice());
+    }
+    put_answer(made?, into)?;
     put_value(alloc, &plain(alloc, &copy, bases)?, into)?;
     put_held(alloc, mode, h, bases, into)
+}
+
+// A form, and the members of the bases.
+fn state(
+    rt: &impl Abort,
+    alloc: Global,
+    h: &Held,
+    bases: &Bases,
+) -> Result<Vec<u8>, AllocError> {
+    let mut shown = Vec::new(alloc);
+    put_form(alloc, h, &mut shown)?;
+    put_bases(rt, alloc, bases, &mut shown)?;
+    Ok(shown)
 }
 
 // The update, over which a copy stands for the same.

@@ -18,7 +18,8 @@ pub fn denoted(alloc: Global, denotation: &str) -> Result<Option<Value>, AllocEr
     let mut reader = Reader::new(alloc)?;
     match reader.next(&mut input) {
         Ok(Got::Value(v)) => Ok(Some(v)),
-        _ => Ok(None),
+        Ok(_) => Ok(None),
+        Err(_) => Err(AllocError),
     }
 }
 

@@ -1,5 +1,6 @@
 -- One more image comes to a point of a map.
 use Rattle.std.proofs.Common.{◌≡◌, ◌∙◌, ℕ, ◌-◌, ◌≤◌, ◌<◌, ◌==◌, Bool, true, false, ◌&&◌, ◌⊎◌, inl, inr, cond, List, [], ◌∷◌, ◌++◌, Option, None, Some, IsSome, Ok, refl, sym, ap, subst, arith, eq-eqb, option_and_then}
+use Rattle.std.specs.Prelude.{IfSome}
 use Rattle.std.specs.Bool.{if◌then◌else◌}
 use Rattle.std.specs.List.{filter_map, flat_map, list_all}
 use Rattle.std.specs.List.Sorted.{IsStrictlySortedBy}
@@ -51,41 +52,41 @@ use Rattle.setl_rep_entering.specs.Entering.{AreLengthened, BasesAreThere}
 use Rattle.setl_rep_entering.specs.Laws.{NamesStay, PlacesAreFound, PlacesAreMembers, PartsLengthenAlike, BlocksAreKept, MembersLengthenNothing}
 use Rattle.setl_rep_updates.specs.InForm.{ArePlacesFound, IsInForm, FormsOfModesStay}
 use Rattle.setl_rep_updates.specs.Updates.{is_part, with_image, IsUpdate}
-use Rattle.setl_rep_updates.specs.code.Added.{TakesMember, AreSetsAlike, AreNumbersWith, IsWithMember, IsImageAdded}
+use Rattle.setl_rep_updates.specs.code.Added.{changed, TakesMember, AreSetsAlike, AreNumbersPut, IsMemberPut, IsImageAdded}
 use Rattle.setl_rep_updates.proofs.Including.{itself, formed_inserted, value_of_set, all_inserted}
 use Rattle.setl_rep_updates.proofs.Contents.{form_at, form_put}
 use Rattle.setl_rep_updates.proofs.Imaging.{of_both, in_first, in_second, of_inserted, in_inserted, part_tests, all_pairs, other_table, points_on, HasPointsOn}
 use Rattle.setl_rep_updates.proofs.Cutting.{at_points, same_front}
 
--- ---- a member comes into a set
+-- ---- a member comes into a set, or goes out of it
 
-with_numbers : Gathers → (bs : BasesState) (l : Layout) (b : BaseId) (y : Datum) (ns ms : set.FinSet nat_cmp) → IsThere bs b → AreNumbersWith bs b y ns ms → IsWithMember bs y (numbers l b ns) (numbers l b ms)
-with_numbers gathers bs l b y ns ms there w = record {
+with_numbers : Gathers → (bs : BasesState) (l : Layout) (b : BaseId) (on : Bool) (y : Datum) (ns ms : set.FinSet nat_cmp) → IsThere bs b → AreNumbersPut bs b on y ns ms → IsMemberPut bs on y (numbers l b ns) (numbers l b ms)
+with_numbers gathers bs l b on y ns ms there w = record {
   over = (there, w.living);
   value = ap (λ ds. Some (set_of ds)) members;
   rising = subst IsRising members (gathers (filter_map (value_at (base_at bs b)) (set.items ms))).rising;
   alike = (refl, refl);
 }
   where
-    members : members_at (base_at bs b) ms ≡ insert_datum y (element_list (elements_of (members_at (base_at bs b) ns)))
-    members = w.members ∙ ap (insert_datum y) (sym (element_list-elements_of (members_at (base_at bs b) ns)))
+    members : members_at (base_at bs b) ms ≡ changed on y (element_list (elements_of (members_at (base_at bs b) ns)))
+    members = w.members ∙ ap (changed on y) (sym (element_list-elements_of (members_at (base_at bs b) ns)))
 
-pub in_remote : Gathers → (bs : BasesState) (b : BaseId) (y : Datum) (ns ms : set.FinSet nat_cmp) → IsThere bs b → AreNumbersWith bs b y ns ms → IsWithMember bs y (form (code.Remote b ns)) (form (code.Remote b ms))
-in_remote gathers bs b y ns ms there w =
-    subst (λ f. IsWithMember bs y f (form (code.Remote b ms))) (sym (of_remote b ns)) (subst (IsWithMember bs y (numbers remote b ns)) (sym (of_remote b ms)) (with_numbers gathers bs remote b y ns ms there w))
+pub in_remote : Gathers → (bs : BasesState) (b : BaseId) (on : Bool) (y : Datum) (ns ms : set.FinSet nat_cmp) → IsThere bs b → AreNumbersPut bs b on y ns ms → IsMemberPut bs on y (form (code.Remote b ns)) (form (code.Remote b ms))
+in_remote gathers bs b on y ns ms there w =
+    subst (λ f. IsMemberPut bs on y f (form (code.Remote b ms))) (sym (of_remote b ns)) (subst (IsMemberPut bs on y (numbers remote b ns)) (sym (of_remote b ms)) (with_numbers gathers bs remote b on y ns ms there w))
 
-pub in_sparse : Gathers → (bs : BasesState) (b : BaseId) (y : Datum) (ns ms : Rc (set.FinSet nat_cmp) Global) → IsThere bs b → AreNumbersWith bs b y ns.value ms.value → IsWithMember bs y (form (code.Sparse b ns)) (form (code.Sparse b ms))
-in_sparse gathers bs b y ns ms there w =
-    subst (λ f. IsWithMember bs y f (form (code.Sparse b ms))) (sym (of_sparse b ns)) (subst (IsWithMember bs y (numbers sparse b ns.value)) (sym (of_sparse b ms)) (with_numbers gathers bs sparse b y ns.value ms.value there w))
+pub in_sparse : Gathers → (bs : BasesState) (b : BaseId) (on : Bool) (y : Datum) (ns ms : Rc (set.FinSet nat_cmp) Global) → IsThere bs b → AreNumbersPut bs b on y ns.value ms.value → IsMemberPut bs on y (form (code.Sparse b ns)) (form (code.Sparse b ms))
+in_sparse gathers bs b on y ns ms there w =
+    subst (λ f. IsMemberPut bs on y f (form (code.Sparse b ms))) (sym (of_sparse b ns)) (subst (IsMemberPut bs on y (numbers sparse b ns.value)) (sym (of_sparse b ms)) (with_numbers gathers bs sparse b on y ns.value ms.value there w))
 
-pub in_plain : (bs : BasesState) (y : Datum) (old new : Body) → Members new ≡ insert_datum y (Members old) → IsRising (Members new) → IsWithMember bs y (form (code.Plain (variants.Set old))) (form (code.Plain (variants.Set new)))
-in_plain bs y old new is rising =
-    subst (λ f. IsWithMember bs y f (form (code.Plain (variants.Set new)))) (sym (of_plain (variants.Set old))) (subst (IsWithMember bs y (plain (set_of (Members old)))) (sym (of_plain (variants.Set new))) made)
+pub in_plain : (bs : BasesState) (on : Bool) (y : Datum) (old new : Body) → Members new ≡ changed on y (Members old) → IsRising (Members new) → IsMemberPut bs on y (form (code.Plain (variants.Set old))) (form (code.Plain (variants.Set new)))
+in_plain bs on y old new is rising =
+    subst (λ f. IsMemberPut bs on y f (form (code.Plain (variants.Set new)))) (sym (of_plain (variants.Set old))) (subst (IsMemberPut bs on y (plain (set_of (Members old)))) (sym (of_plain (variants.Set new))) made)
   where
-    members : Members new ≡ insert_datum y (element_list (elements_of (Members old)))
-    members = is ∙ ap (insert_datum y) (sym (element_list-elements_of (Members old)))
+    members : Members new ≡ changed on y (element_list (elements_of (Members old)))
+    members = is ∙ ap (changed on y) (sym (element_list-elements_of (Members old)))
 
-    made : IsWithMember bs y (plain (set_of (Members old))) (plain (set_of (Members new)))
+    made : IsMemberPut bs on y (plain (set_of (Members old))) (plain (set_of (Members new)))
     made = record {
       over = tt;
       value = ap (λ ds. Some (set_of ds)) members;
@@ -104,19 +105,22 @@ inserted y (e ∷ es) = by (datum_cmp y e)
     by Equal = (e, es, refl)
     by Greater = (e, insert_datum y es, refl)
 
+-- the set of a rising list that isn't empty
+pub rising_content : (ds : List Datum) (w : Datum) (ws : List Datum) → ds ≡ w ∷ ws → IsRising ds → IsContent true (Some (set_of ds))
+rising_content ds w ws is r =
+    let rising : IsRising (w ∷ ws) = subst IsRising is r in
+    let content : IsContent true (Some (set_of (w ∷ ws))) = subst (λ l. IsRising (w ∷ l)) (sym (element_list-elements_of ws)) rising in
+    subst (λ l. IsContent true (Some (set_of l))) (sym is) content
+
 pub images_content : (y : Datum) (es : List Datum) → IsRising (insert_datum y es) → IsContent true (Some (set_of (insert_datum y es)))
-images_content y es r =
-    let q = inserted y es in
-    let rising : IsRising (q.0 ∷ q.1) = subst IsRising q.2 r in
-    let content : IsContent true (Some (set_of (q.0 ∷ q.1))) = subst (λ l. IsRising (q.0 ∷ l)) (sym (element_list-elements_of q.1)) rising in
-    subst (λ l. IsContent true (Some (set_of l))) (sym q.2) content
+images_content y es r = let q = inserted y es in rising_content (insert_datum y es) q.0 q.1 q.2 r
 
 pub one_rises : (y : Datum) → IsRising (y ∷ [])
 unfolding IsStrictlySortedBy
 one_rises y = (tt, tt)
 
 -- a set of the same kind has the same form
-form_alike : (name : ℕ → BaseId) (a : Attribute) (k : Mode) (c g : Form) → AreSetsAlike c g → HasForm name (Sets a k) c → HasForm name (Sets a k) g
+pub form_alike : (name : ℕ → BaseId) (a : Attribute) (k : Mode) (c g : Form) → AreSetsAlike c g → HasForm name (Sets a k) c → HasForm name (Sets a k) g
 form_alike name a k c g alike h = by c g (place_of a k) alike h
   where
     by : (c g : Form) (o : Option (Layout × ℕ)) → AreSetsAlike c g → IsSetForm name o c → IsSetForm name o g
@@ -197,15 +201,15 @@ module _ (z x : Datum) (first range : Datum → List Datum) where
 
 -- ---- the form of a map with sets of images
 
-is_multi : (name : ℕ → BaseId) (o : Option (Layout × ℕ)) (P : Form → Type 0) (l : Layout) (b : BaseId) (many : Bool) (es : Entries) → IsMapForm name o true P (table l b many es) → many ≡ true
+pub is_multi : (name : ℕ → BaseId) (o : Option (Layout × ℕ)) (P : Form → Type 0) (l : Layout) (b : BaseId) (many : Bool) (es : Entries) → IsMapForm name o true P (table l b many es) → many ≡ true
 is_multi name None P l b many es h = absurd h
 is_multi name (Some q) P l b many es h = h.2
 
-map_forms : (name : ℕ → BaseId) (o : Option (Layout × ℕ)) (P : Form → Type 0) (l : Layout) (b : BaseId) (many : Bool) (es : Entries) → IsMapForm name o true P (table l b many es) → HaveForms P es
+pub map_forms : (name : ℕ → BaseId) (o : Option (Layout × ℕ)) (P : Form → Type 0) (l : Layout) (b : BaseId) (many : Bool) (es : Entries) → IsMapForm name o true P (table l b many es) → HaveForms P es
 map_forms name None P l b many es h = absurd h
 map_forms name (Some q) P l b many es h = h.3
 
-over_at : (bs : BasesState) (base : BaseState) (many : Bool) (es : Entries) (q : ℕ) (c : Form) → AreOver bs base many es → content_in es q ≡ Some c → IsOver bs c × IsContent many (stands bs c)
+pub over_at : (bs : BasesState) (base : BaseState) (many : Bool) (es : Entries) (q : ℕ) (c : Form) → AreOver bs base many es → content_in es q ≡ Some c → IsOver bs c × IsContent many (stands bs c)
 over_at bs base many no_entry q c h e = let no : ⊥ = cc in absurd no
 over_at bs base many (entry_then k f es) q c h e = by (q == k) e (over_at bs base many es q c h.3)
   where
@@ -495,15 +499,15 @@ module _ (gathers : Gathers) (shallower : ImagesAreShallower) (images_fit : Imag
 
 -- ---- before the update
 
-no_element : (name : ℕ → BaseId) (o : Option (Layout × ℕ)) (b : BaseId) (e : Elt) → IsSetForm name o (element b e) → ⊥
+pub no_element : (name : ℕ → BaseId) (o : Option (Layout × ℕ)) (b : BaseId) (e : Elt) → IsSetForm name o (element b e) → ⊥
 no_element name None b e h = h
 no_element name (Some p) b e h = h
 
-no_table : (name : ℕ → BaseId) (o : Option (Layout × ℕ)) (l : Layout) (b : BaseId) (many : Bool) (es : Entries) → IsSetForm name o (table l b many es) → ⊥
+pub no_table : (name : ℕ → BaseId) (o : Option (Layout × ℕ)) (l : Layout) (b : BaseId) (many : Bool) (es : Entries) → IsSetForm name o (table l b many es) → ⊥
 no_table name None l b many es h = h
 no_table name (Some p) l b many es h = h
 
-no_handles : (name : ℕ → BaseId) (o : Option (Layout × ℕ)) (b : BaseId) (es : List (Option Elt)) → IsSetForm name o (handles b es) → ⊥
+pub no_handles : (name : ℕ → BaseId) (o : Option (Layout × ℕ)) (b : BaseId) (es : List (Option Elt)) → IsSetForm name o (handles b es) → ⊥
 no_handles name None b es h = h
 no_handles name (Some p) b es h = h
 
@@ -607,6 +611,10 @@ added_part_fits m s a g d k x y is_map_mode is_set px py = ap (λ z. datum_fits 
 
 -- ---- an image that is added
 
+-- what holds of an answer that is there
+pub at_some : {X : Type 0} (P : X → Type 0) (o : Option X) (r : X) → o ≡ Some r → IfSome o P → P r
+at_some P o r is h = subst (λ u. IfSome u P) is h
+
 pub first_added : (bs : BasesState) (n : ℕ) (s : Mode) (x y : Datum) (f q : Form) (number : ℕ) (content : Form) → HasBase bs f → IsPoint bs f number x → IsOver bs content → stands bs content ≡ Some (set_of (y ∷ [])) → HasForm (named bs n) s content
     → IsKeyedForm f → IsKeyedForm q → content_of f number ≡ None → PutsContent number (Some content) f q → IsImageAdded bs n s x y f q
 first_added bs n s x y f q number content base point over stood h keyed keyed_then none put = record {
@@ -623,7 +631,7 @@ first_added bs n s x y f q number content base point over stood h keyed keyed_th
   put = put;
 }
 
-pub more_added : (bs : BasesState) (n : ℕ) (s : Mode) (x y : Datum) (f q : Form) (number : ℕ) (was content : Form) → HasBase bs f → IsPoint bs f number x → content_of f number ≡ Some was → IsWithMember bs y was content → IsKeyedForm f → IsKeyedForm q → PutsContent number (Some content) f q
+pub more_added : (bs : BasesState) (n : ℕ) (s : Mode) (x y : Datum) (f q : Form) (number : ℕ) (was content : Form) → HasBase bs f → IsPoint bs f number x → content_of f number ≡ Some was → IsMemberPut bs true y was content → IsKeyedForm f → IsKeyedForm q → PutsContent number (Some content) f q
     → IsImageAdded bs n s x y f q
 more_added bs n s x y f q number was content base point is w keyed keyed_then put = record {
   number = number;

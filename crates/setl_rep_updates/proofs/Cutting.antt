@@ -79,7 +79,7 @@ has_second x None l e h = false≢true e
 has_second x (Some o) l e h = cc
 
 -- without an image, nothing is taken out
-none_out : (x : Datum) (f : List Datum) → images x f ≡ [] → without_point x f ≡ f
+pub none_out : (x : Datum) (f : List Datum) → images x f ≡ [] → without_point x f ≡ f
 none_out x [] h = refl
 none_out x (d ∷ f) h = by (is_datum x (first_of (pair_parts d))) refl h (none_out x f)
   where
@@ -184,7 +184,7 @@ of_maps name (Tuples m) k b many es h = absurd (no_tuple name (base_of m) k b ma
 
 -- with no images, a point is taken out
 module _ (agree : RisingListsAgree) (gathers : Gathers) where
-  none_put : (x : Datum) (many : Bool) (f : List Datum) → IsRising f → put_images x (images_of many None) f ≡ without_point x f
+  pub none_put : (x : Datum) (many : Bool) (f : List Datum) → IsRising f → put_images x (images_of many None) f ≡ without_point x f
   none_put x many f r = ap (λ ys. put_images x ys f) (no_images many) ∙ ap set_from (append_nothing (without_point x f)) ∙ agree (set_from (without_point x f)) (without_point x f) g.rising (IsStrictlySortedBy-filter datum_cmp (other x) f r) g.members
     where
       no_images : (many : Bool) → images_of many None ≡ []

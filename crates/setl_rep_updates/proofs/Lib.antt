@@ -4,4 +4,5 @@ pub mod Contents
 pub mod Imaging
 pub mod Cutting
 pub mod Adding
+pub mod Removing
 pub mod Excluding

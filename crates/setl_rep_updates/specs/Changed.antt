@@ -12,7 +12,7 @@ use Rattle.setl_rep_kernels.specs.Kernels.{is_numbered}
 use Rattle.setl_rep_maps.specs.Contents.{table_of}
 use Rattle.setl_rep_updates.specs.declared.updating.Change.{Change}
 use Rattle.setl_rep_updates.specs.declared.updating.Change.TheVariants as to
-use Rattle.setl_rep_updates.specs.Updates.{adds_image, includes, puts, with_image}
+use Rattle.setl_rep_updates.specs.Updates.{adds_image, cuts_image, includes, less_image, puts, with_image}
 
 -- what it gives, by the turns that are left
 abbrev pub given_by : Change → Option Datum → ℕ → Outcome
@@ -21,6 +21,7 @@ given_by (to.Less x) s = op_of Less (s ∷ Some (datum x) ∷ [])
 given_by (to.Lessf x) s = op_of Lessf (s ∷ Some (datum x) ∷ [])
 given_by (to.Put x y) s = op_of Put (s ∷ Some (datum x) ∷ part y ∷ [])
 given_by (to.WithImage x y) s = with_image s (datum x) (datum y)
+given_by (to.LessImage x y) s = less_image s (datum x) (datum y)
 
 -- whether `f(x) := y` is made; `om` only wants a table
 abbrev pub puts_part : Mode → Form → Value → Option Value → Bool
@@ -34,3 +35,4 @@ makes m f (to.Less x) = is_numbered f
 makes m f (to.Lessf x) = is_some (table_of f)
 makes m f (to.Put x y) = puts_part m f x y
 makes m f (to.WithImage x y) = adds_image m f (datum x) (datum y)
+makes m f (to.LessImage x y) = cuts_image m f

@@ -3,7 +3,8 @@ use Rattle.std.specs.Prelude.{◌≡◌, ℕ, nat_lt, Bool, true, false, ◌&&�
 use Rattle.setl_value.specs.Datum.{Datum, depth}
 use Rattle.setl_modes.specs.Modes.{Mode, Sets, SingleMaps, MultiMaps}
 use Rattle.setl_modes.specs.Fits.{datum_fits}
-use Rattle.setl_operators_table.specs.declared.Operator.TheVariants.{Images, PutImages, With}
+use Rattle.setl_operators_table.specs.declared.Operator.{Operator}
+use Rattle.setl_operators_table.specs.declared.Operator.TheVariants.{Images, Less, PutImages, With}
 use Rattle.setl_operators_table.specs.Outcome.{Outcome, Gives, then_with}
 use Rattle.setl_operators_table.specs.Operators.{op_of}
 use Rattle.std.specs.declared.alloc.AllocError.{AllocError}
@@ -44,10 +45,28 @@ abbrev pub adds_image : Mode → Form → Datum → Datum → Bool
 adds_image (MultiMaps a d s) f x y = adds_to d s f x y
 adds_image m f x y = false
 
--- what `f{x} with:= y` makes of the whole: the set of the images of x is read, y comes into it, and it is put there
+-- whether y goes out of the images of a point, in a map of this mode: where it has sets of images that are tested one by one and
+-- is held as a table
+abbrev pub has_image_sets : Mode → Bool
+has_image_sets (MultiMaps a d (Sets b k)) = true
+has_image_sets m = false
+
+abbrev pub cuts_image : Mode → Form → Bool
+cuts_image m f = has_image_sets m && is_some (table_of f)
+
+-- what an update of the images of x by an operator and y makes of the whole: the set of the images is read, the operator is applied
+-- to it and y, and what that gives is put there
+abbrev pub images_by : Operator → Option Datum → Datum → Datum → ℕ → Outcome
+images_by o f x y left =
+    then_with (op_of Images (f ∷ Some x ∷ []) left) left (λ s now. then_with (op_of o (s ∷ Some y ∷ []) now) now (λ new later. op_of PutImages (f ∷ Some x ∷ new ∷ []) later))
+
+-- `f{x} with:= y`
 abbrev pub with_image : Option Datum → Datum → Datum → ℕ → Outcome
-with_image f x y left =
-    then_with (op_of Images (f ∷ Some x ∷ []) left) left (λ s now. then_with (op_of With (s ∷ Some y ∷ []) now) now (λ new later. op_of PutImages (f ∷ Some x ∷ new ∷ []) later))
+with_image f x y left = images_by With f x y left
+
+-- `f{x} less:= y`
+abbrev pub less_image : Option Datum → Datum → Datum → ℕ → Outcome
+less_image f x y left = images_by Less f x y left
 
 -- What an update leaves, where an operator is to give this of what the form f stood for, by the turns that are left, and g is
 -- the form that stands there now. True says that it was made: g stands for what the operator gives, without a charge, and the

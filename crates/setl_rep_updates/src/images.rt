@@ -1,4 +1,4 @@
-//! One more image comes to a point of a map.
+//! One more image comes to a point of a map, or one goes.
 
 ghost use Rattle.std.specs.Prelude.{◌≡◌, Bool, ℕ, true, IfOk, OnOk, OnErr, Some, IsSome, [], ◌∷◌};
 ghost use Rattle.setl_value.specs.Datum.{set_of};
@@ -14,21 +14,21 @@ ghost use Rattle.setl_rep_forms.specs.FormOf.{form};
 ghost use Rattle.setl_rep_forms.specs.Stands.{stands, IsOver};
 ghost use Rattle.setl_rep_building.specs.HasForm.{HasForm};
 ghost use Rattle.setl_rep_building.specs.Places.{HasBases, PlacesAreFound};
-ghost use Rattle.setl_rep_maps.specs.Contents.{content_of, table_of};
+ghost use Rattle.setl_rep_maps.specs.Contents.{content_of, table_of, IsTable};
 ghost use Rattle.setl_rep_entering.specs.Entering.{AreLengthened};
 ghost use Rattle.setl_rep_updates.specs.InForm.{IsInForm};
-ghost use Rattle.setl_rep_updates.specs.Updates.{adds_image, adds_to, is_part, with_image, IsUpdate};
-ghost use Rattle.setl_rep_updates.specs.code.Added.{IsImageAdded, TakesMember};
+ghost use Rattle.setl_rep_updates.specs.Updates.{adds_image, adds_to, cuts_image, has_image_sets, is_part, less_image, with_image, IsUpdate};
+ghost use Rattle.setl_rep_updates.specs.code.Added.{HasSeveral, IsContentCut, IsImageAdded, IsImageCut, IsImageSet, TakesMember};
 
 use crate::maps::{is_part, set_of_pair};
-use crate::members::include_member;
+use crate::members::{has_member, is_one, put_member};
 use setl_modes::Mode;
 use setl_rep_based::handle;
 use setl_rep_bases::{BaseId, Bases};
 use setl_rep_building::in_form;
 use setl_rep_entering::{are_entered, base_marks, enter_places, take_back};
 use setl_rep_forms::Held;
-use setl_rep_maps::{change_content, learn, put_content, table_of};
+use setl_rep_maps::{change_content, content, learn, put_content, table_of};
 use setl_set::with;
 use setl_value::{SetBody, Value};
 use std::alloc::{AllocError, Global};
@@ -217,7 +217,7 @@ fn add_image(
     match change_content(
         f,
         number,
-        |content| include_member(alloc, content, y, bases),
+        |content| put_member(alloc, content, y, true, bases),
     )? {
         Some(done) => done?,
         None => {
@@ -256,5 +256,124 @@ fn set_of_one(alloc: Global, y: &Value) -> Result<Value, AllocError>
     match with(alloc, &mut s, y.copy()?) {
         Ok(()) => Ok(Value::Set(s)),
         Err(_) => Err(AllocError),
+    }
+}
+
+/// `f{x} less:= y`, in place: a map that keeps the images of each point as a set, and is held as a table, loses the image `y` at
+/// `x`. A point that has no images then has no content.
+///
+/// Ok(false) comes where the map isn't held so, or where the mode of its images isn't one of sets. After that, and after want of
+/// memory, which is the error, the map is as before. Nothing is charged, and no base changes. Where nobody else holds the table
+/// and the set of images, the cost is near linear in the sizes of `x` and `y` alone where that set is remote, but for a count of
+/// its words, and near linear in the set where it is sparse.
+pub fn exclude_image(
+    alloc: Global,
+    mode: &Mode,
+    f: &mut Held,
+    x: &Value,
+    y: &Value,
+    bases: &Bases,
+) -> Result<bool, AllocError>
+    requires { (n : ℕ) × IsInForm bases.now n (mode_of mode.now) (form f.old) }
+    ensures kernel { IfOk result (λ t. t ≡ cuts_image (mode_of mode.now) (form f.old)) }
+    ensures update { (n : ℕ) → IsInForm bases.now n (mode_of mode.now) (form f.old) → IsUpdate (mode_of mode.now) n (less_image (stands bases.now (form f.old)) (datum x.now) (datum y.now)) bases.now bases.now (form f.old) (form f.new) result }
+{
+    setl_set::laws::rising_lists_agree();
+    setl_set::laws::tests_are_exact();
+    setl_set::laws::operations_have_their_members();
+    setl_map::laws::images_are_by_pairs();
+    setl_modes_parts::parts_decide();
+    setl_rep_maps::laws::contents_stand_for_images();
+    setl_rep_maps::laws::puts_are_images();
+    setl_rep_entering::laws::parts_lengthen_alike();
+    if !has_image_sets(mode) {
+        return Ok(false);
+    }
+    let Some((b, _)) = table_of(f) else {
+        return Ok(false);
+    };
+    cut_image(alloc, b, f, x, y, bases)?;
+    Ok(true)
+}
+
+// Whether the mode is one of maps with sets of images that are tested one by one.
+fn has_image_sets(mode: &Mode) -> bool
+    ensures { result ≡ has_image_sets (mode_of mode.now) }
+{
+    match mode {
+        Mode::Mmap(_, _, s) => matches!(s.get(), Mode::Set(_, _)),
+        _ => false,
+    }
+}
+
+// The image `y` of `x` goes out of a map on the base `b`. After an error, which is want of memory, the map is as before.
+fn cut_image(
+    alloc: Global,
+    b: BaseId,
+    f: &mut Held,
+    x: &Value,
+    y: &Value,
+    bases: &Bases,
+) -> Result<(), AllocError>
+    requires table { (many : Bool) × (table_of (form f.old) ≡ Some (b, many)) }
+    requires over { IsOver bases.now (form f.old) }
+    requires images { (q : ℕ) (c : HeldForm) → content_of (form f.old) q ≡ Some c → IsImageSet bases.now c }
+    ensures cut { OnOk result (IsImageCut bases.now b (datum x.now) (datum y.now) (form f.old) (form f.new)) }
+    ensures refused { OnErr result (form f.new ≡ form f.old) }
+{
+    learn(f);
+    let Some(e) = bases.at(b).find(x) else {
+        return Ok(());
+    };
+    cut_at(alloc, e.block, f, y, bases)?;
+    learn(f);
+    Ok(())
+}
+
+// The same at the number of a point.
+fn cut_at(
+    alloc: Global,
+    number: u64,
+    f: &mut Held,
+    y: &Value,
+    bases: &Bases,
+) -> Result<(), AllocError>
+    requires table { IsTable (form f.old) }
+    requires images { (c : HeldForm) → content_of (form f.old) number ≡ Some c → IsImageSet bases.now c }
+    ensures cut { OnOk result (IsContentCut bases.now number (datum y.now) (form f.old) (form f.new)) }
+    ensures refused { OnErr result (form f.new ≡ form f.old) }
+{
+    let Some(images) = content(f, number) else {
+        return Ok(());
+    };
+    if !has_member(images, y, bases) {
+        return Ok(());
+    }
+    if is_one(alloc, images, bases)? {
+        return put_content(f, number, None);
+    }
+    cut_member(alloc, number, f, y, bases)
+}
+
+// The same where there are more images than this one.
+fn cut_member(
+    alloc: Global,
+    number: u64,
+    f: &mut Held,
+    y: &Value,
+    bases: &Bases,
+) -> Result<(), AllocError>
+    requires table { IsTable (form f.old) }
+    requires several { HasSeveral bases.now (datum y.now) (content_of (form f.old) number) }
+    ensures cut { OnOk result (IsContentCut bases.now number (datum y.now) (form f.old) (form f.new)) }
+    ensures refused { OnErr result (form f.new ≡ form f.old) }
+{
+    match change_content(
+        f,
+        number,
+        |images| put_member(alloc, images, y, false, bases),
+    )? {
+        Some(done) => done,
+        None => Ok(()),
     }
 }

@@ -11,7 +11,7 @@ mod members;
 mod sets;
 mod updating;
 
-pub use images::include_image;
+pub use images::{exclude_image, include_image};
 pub use maps::{cut, put};
 pub use sets::{exclude, include};
 pub use updating::{Change, update};

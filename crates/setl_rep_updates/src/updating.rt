@@ -11,7 +11,7 @@ ghost use Rattle.setl_rep_updates.specs.Changed.{given_by, makes, puts_part};
 ghost use Rattle.setl_rep_updates.specs.InForm.{IsInForm};
 ghost use Rattle.setl_rep_updates.specs.Updates.{IsUpdate};
 
-use crate::images::include_image;
+use crate::images::{exclude_image, include_image};
 use crate::maps::{cut, put};
 use crate::sets::{exclude, include};
 use setl_modes::Mode;
@@ -33,6 +33,8 @@ pub enum Change {
     Put(Value, Option<Value>),
     /// `f{x} with:= y`
     WithImage(Value, Value),
+    /// `f{x} less:= y`
+    LessImage(Value, Value),
 }
 
 /// Does this to a value in the form of its mode, in place.
@@ -58,6 +60,7 @@ pub fn update(
         Change::Lessf(x) => cut(held, x, bases),
         Change::Put(x, y) => put_part(alloc, mode, held, x, y, bases, instance),
         Change::WithImage(x, y) => include_image(alloc, mode, held, x, y, bases, instance),
+        Change::LessImage(x, y) => exclude_image(alloc, mode, held, x, y, bases),
     }
 }
 

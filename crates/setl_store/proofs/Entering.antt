@@ -30,7 +30,8 @@ use Rattle.setl_store_slots.specs.declared.cells.Held.TheVariants as slot
 use Rattle.setl_store.specs.Bodies.{with_stores, entered}
 use Rattle.setl_store.specs.declared.cells.Kept.{Kept}
 use Rattle.setl_store_operands.specs.Operands.{operand_of}
-use Rattle.setl_store.specs.Flat.{Here, held_of, cells, names_of, helds, results, activation, callers, core_of, copies_of, stands, own_count_of, IsShaped, IsSound, AllSound}
+use Rattle.setl_store.specs.Flat.{Here, held_of, cells, names_of, helds, results, activation, callers, core_of, copies_of, bases_of, stands, own_count_of, IsShaped, IsSound, AllSound}
+use Rattle.setl_store.specs.Gained.{no_members}
 use Rattle.setl_store.specs.Returning.{held_by, parameter_count_of, name_count_of}
 use Rattle.setl_store.specs.Standing.{Standing, no_world, started, variables_by}
 use Rattle.setl_store.proofs.Bodies.{body_at, names_same, names_differ}
@@ -243,11 +244,11 @@ counted_both : (b : Option Body) → parameter_count_of b + name_count_of b ≡ 
 counted_both None = refl
 counted_both (Some b) = refl
 
-pub starts : (code : Code) (bs : BasesState) (e : Here) (v p m : ℕ) → MayRun code → v ≡ length code.vars → p ≡ parameter_count_of (slice_get code.bodies 0) → m ≡ name_count_of (slice_get code.bodies 0) →
+pub starts : (code : Code) (bs : BasesState) (e : Here) (v p m count : ℕ) → MayRun code → bases_of bs [] ≡ no_members count → v ≡ length code.vars → p ≡ parameter_count_of (slice_get code.bodies 0) → m ≡ name_count_of (slice_get code.bodies 0) →
     e.slots ≡ (replicate v slot.Om ++ replicate p slot.Om) ++ replicate m slot.Om →
     e ≡ record { slots = e.slots; operands = []; activations = record { body = 0; from = 0; slots = v; operands = 0 } ∷ []; members = []; fields = no_fields } →
-    (stands code bs 0 e [] ≡ started code) × IsSound (plain_code code) bs e × AreStanding bs e.slots
-starts code bs e v p m may vars ps ns slots_by now =
+    (stands code bs 0 e [] ≡ started count code) × IsSound (plain_code code) bs e × AreStanding bs e.slots
+starts code bs e v p m count may empty vars ps ns slots_by now =
     let c = plain_code code in
     let filled_by : helds bs e ≡ (replicate v (There None) ++ replicate p (There None)) ++ replicate m (There None) = ap (map (held_of bs)) slots_by ∙ all_cleared_shown bs v p m in
     let f : Frame = record { body = 0; from = 0; slots = v; operands = 0 } in
@@ -263,7 +264,7 @@ starts code bs e v p m may vars ps ns slots_by now =
     sym (length-map e.slots (held_of bs)) ∙ ap length hs ∙ length-append (replicate v (There None)) own
     ∙ (λ i. length-replicate v (There None) i + (length-append (replicate p (There None)) (replicate m (There None)) ∙ (λ j. length-replicate p (There None) j + length-replicate m (There None) j)) i) in (
       ap (λ x. stands code bs 0 x []) now
-          ∙ (λ i. record { code = code; core = record { globals = globals i; now = record { body = 0; at = 0; own = mine i; operands = [] }; callers = []; kept = []; world = no_world } }),
+          ∙ (λ i. record { code = code; core = record { globals = globals i; now = record { body = 0; at = 0; own = mine i; operands = [] }; callers = []; kept = []; world = no_world }; bases = empty i }),
       subst (IsSound c bs) (sym now)
           (record {
             some = omega arith;

@@ -18,7 +18,7 @@ use Rattle.setl_rep_bases.specs.declared.marks.Mark.{Mark}
 use Rattle.setl_rep_bases.specs.Bases.{BasesState, base_at, instance_at}
 use Rattle.setl_rep_bases.specs.Keeping.{AreKept}
 use Rattle.setl_rep_bases.specs.Marks.{marks_of, as_cut, cut_all, back_all, AreWithin, HaveFewCuts}
-use Rattle.setl_rep_bases.specs.Cutting.{NothingIsCut, GrownBasesAreCutAlike, CountedCutsLeaveTheSame, CountedCutsAreRead, CutBlocksWereThere}
+use Rattle.setl_rep_bases.specs.Cutting.{NothingIsCut, GrownBasesAreCutAlike, CountedCutsLeaveTheSame, CountedCutsAreRead, CutBlocksWereThere, MarksAreRead}
 use Rattle.setl_rep_updates.specs.InForm.{FormsOfMainStay}
 use Rattle.setl_store_operands.specs.Laws.{OperandsStay}
 use Rattle.setl_store_kept.specs.Kept.{KeptSound}
@@ -28,7 +28,9 @@ use Rattle.setl_store.specs.declared.cells.Kept.{Kept}
 use Rattle.setl_store_operands.specs.declared.cells.Operand.{Operand}
 use Rattle.setl_store_operands.specs.declared.cells.Operand.TheVariants as operand
 use Rattle.setl_store.specs.Standing.{Standing, over, kept as with_kept, restored, forgotten}
-use Rattle.setl_store.specs.Flat.{Here, AllGot, body_in, cells, own_in, operands_in, callers, marks_in, copy_of, copies_of, core_of, stands, IsSound, WasSound, AllSound, answering, now_operands}
+use Rattle.setl_store.specs.Flat.{Here, AllGot, body_in, cells, own_in, operands_in, callers, marks_in, copy_of, copies_of, core_of, bases_of, stands, IsSound, WasSound, AllSound, answering, now_operands}
+use Rattle.setl_store.specs.Gained as gained
+use Rattle.setl_store.proofs.Gaining.{bases_kept, bases_cut as bases_back, bases_forgotten}
 use Rattle.setl_store.proofs.OperandLists.{Changed, pushes}
 use Rattle.setl_store.proofs.StandingSlots.{slots_stay}
 
@@ -66,11 +68,11 @@ copy_with c hs os k = record {
 }
 
 -- what is there is kept, and goes on
-pub all_kept : NothingIsCut → (code : Code) (bs : BasesState) (keeps : ℕ) (at next : ℕ) (e e' : Here) (kept kept' : List (Here × Kept)) (k : Kept) (s : Standing) →
+pub all_kept : NothingIsCut → MarksAreRead → (code : Code) (bs : BasesState) (keeps : ℕ) (at next : ℕ) (e e' : Here) (kept kept' : List (Here × Kept)) (k : Kept) (s : Standing) →
     MayRun code × IsSound (plain_code code) bs e × AllSound (plain_code code) bs keeps e.slots kept → stands code bs at e kept ≡ s →
     next ≡ at + 1 → k.at ≡ at + 1 → k.marks ≡ marks_of bs → keeps + 1 < 2 ^ 63 → e' ≡ answering e true → kept' ≡ (answering e false, k) ∷ kept →
-    Changed code bs (keeps + 1) next e' kept' s (with_kept s.core)
-all_kept none code bs keeps at next e e' kept kept' k s h is there place marked few now added =
+    Changed code bs (keeps + 1) next e' kept' (record s { bases = gained.with_kept s.bases }) (with_kept s.core)
+all_kept none read code bs keeps at next e e' kept kept' k s h is there place marked few is_now added =
     let c = plain_code code in
     let n : ℕ = suc at in
     let up : next ≡ n = omega (arith, there) in
@@ -84,18 +86,20 @@ all_kept none code bs keeps at next e e' kept kept' k s h is there place marked 
     let on = core_answered code bs keeps n e kept true h in
     let all = (answering e false, k) ∷ kept in
     let to : core_of c bs n (answering e true) all ≡ with_kept (core_of c bs at e kept) = λ i. record (on i) { kept = copies i } in
-    let done : Changed code bs (keeps + 1) n (answering e true) all s (with_kept s.core) =
+    let told = bases_kept read bs (answering e false) k kept marked in
+    let now : Standing = record s { bases = gained.with_kept s.bases } in
+    let done : Changed code bs (keeps + 1) n (answering e true) all now (with_kept s.core) =
     record {
-      stands = ap (λ (q : CodeCore). record { code = code; core = q }) to ∙ ap (λ (x : Standing). record x { core = with_kept x.core }) is;
+      stands = (λ i. record { code = code; core = to i; bases = told i }) ∙ ap (λ (x : Standing). record x { core = with_kept x.core; bases = gained.with_kept x.bases }) is;
       holds = (
         h.0,
         (answered code bs keeps at e kept true h).holds.1,
         record { standing = h.2.standing; older = one.sound_too; cuts = λ i. (omega (arith, h.2.cuts i)); few = few },
       );
     } in
-    subst (λ m. Changed code bs (keeps + 1) m e' kept' s (with_kept s.core)) (sym up)
-    (subst (λ x. Changed code bs (keeps + 1) n x kept' s (with_kept s.core)) (sym now)
-    (subst (λ ks. Changed code bs (keeps + 1) n (answering e true) ks s (with_kept s.core)) (sym added) done))
+    subst (λ m. Changed code bs (keeps + 1) m e' kept' now (with_kept s.core)) (sym up)
+    (subst (λ x. Changed code bs (keeps + 1) n x kept' now (with_kept s.core)) (sym is_now)
+    (subst (λ ks. Changed code bs (keeps + 1) n (answering e true) ks now (with_kept s.core)) (sym added) done))
 
 -- what a kept one shows is told by the blocks of its bases
 pub reads_blocks : FormsOfMainStay → OperandsStay → (c : plain.Code) → ReadsBlocks marks_in (copy_of c) (WasSound c)
@@ -117,6 +121,7 @@ reads_blocks stay too c bs cs k more was =
 -- the store over what was kept last, and over the bases that were cut to its marks
 pub record BroughtBack (code : Code) (cs : BasesState) (keeps : ℕ) (at : ℕ) (e : Here) (kept : List (Here × Kept)) (s : Standing) : Type 0 where
   pub restored_to : restored s.core.kept s.core ≡ Some (stands code cs at e kept).core
+  pub bases_cut : bases_of cs kept ≡ gained.cut_to_kept s.bases
   pub holds : MayRun code × IsSound (plain_code code) cs e × AllSound (plain_code code) cs keeps e.slots kept
 
 cut_once : (w : Option Mark) (o : Option Instance) →
@@ -145,6 +150,9 @@ brought_back stay too alike read same code bs cs keeps at e e' kept kept' k s h 
       restored_to =
           subst (λ (t : Standing). restored t.core.kept t.core ≡ Some to) is
           (ap (λ l. restored l (core_of c bs at e kept)) copies ∙ (λ i. Some (record to { now = record to.now { operands = sym b.now.answered i } })));
+      bases_cut =
+          ap (λ ds. bases_of ds kept') back ∙ bases_back read bs e' k kept' ∙ ap (λ l. gained.cut_to_kept (bases_of bs l)) (sym last)
+          ∙ ap (λ (t : Standing). gained.cut_to_kept t.bases) is;
       holds = (h.0, b.now.sound, record { standing = b.now.standing; older = b.older; cuts = λ i. (omega (arith, cut i, h.2.cuts i, ap length last)); few = h.2.few });
     }
 
@@ -166,6 +174,7 @@ kept_counted code bs at e kept s is = sym (ap (λ (x : Standing). length x.core.
 -- the store over the older ones of what was kept, where all else stays
 pub record ForgotLast (code : Code) (bs : BasesState) (keeps : ℕ) (at : ℕ) (e : Here) (kept : List (Here × Kept)) (s : Standing) : Type 0 where
   pub forgotten_to : forgotten s.core.kept s.core ≡ Some (stands code bs at e kept).core
+  pub bases_left : bases_of bs kept ≡ gained.without_kept s.bases
   pub holds : MayRun code × IsSound (plain_code code) bs e × AllSound (plain_code code) bs keeps e.slots kept
 
 forgot_first : FormsOfMainStay → OperandsStay → GrownBasesAreCutAlike → CutBlocksWereThere → (code : Code) (bs : BasesState) (keeps at : ℕ) (e : Here) (k : Here × Kept) (ks : List (Here × Kept)) (s : Standing) →
@@ -178,6 +187,7 @@ forgot_first stay too alike were code bs keeps at e k ks s h is =
       forgotten_to =
           subst (λ (t : Standing). forgotten t.core.kept t.core ≡ Some (core_of c bs (suc at) e ks)) is
           (λ i. Some (record from { now = record from.now { at = suc at }; kept = sym rest.same i }));
+      bases_left = bases_forgotten bs k ks ∙ ap (λ (t : Standing). gained.without_kept t.bases) is;
       holds = (h.0, h.1, record { standing = h.2.standing; older = rest.still; cuts = λ i. (omega (arith, h.2.cuts i)); few = h.2.few });
     }
 

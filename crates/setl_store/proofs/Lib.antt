@@ -17,6 +17,7 @@ pub mod Dropping
 pub mod Steps
 pub mod Keeping
 pub mod Starting
+pub mod Gaining
 pub mod Updating
 pub mod Grown
 pub mod Entering

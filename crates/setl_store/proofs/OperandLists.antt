@@ -21,7 +21,7 @@ use Rattle.setl_store.specs.declared.store.Top.TheVariants as top
 use Rattle.setl_store_operands.specs.Operands.{IsOperandOver, HasMembers, got, iterator_by, member_of, members_below, operand_of}
 use Rattle.setl_store.specs.Standing.{Standing, no_world, over, Shows}
 use Rattle.setl_store.specs.declared.cells.Kept.{Kept}
-use Rattle.setl_store.specs.Flat.{Here, operands_in, lowest_in, activation, callers, cells, core_of, copies_of, stands, held_of, helds, results, GotThese, AllGot, IsShaped, IsSound, AllSound, with_operand, now_operands, cut_to}
+use Rattle.setl_store.specs.Flat.{Here, operands_in, lowest_in, activation, callers, cells, core_of, copies_of, bases_of, stands, held_of, helds, results, GotThese, AllGot, IsShaped, IsSound, AllSound, with_operand, now_operands, cut_to}
 use Rattle.setl_store.proofs.StandingOperands.{over_append, over_take}
 use Rattle.setl_store.proofs.Lists.{last_apart, map_reverse, take_more_reversed}
 
@@ -142,7 +142,7 @@ pub changed : (code : Code) (bs : BasesState) (keeps : ℕ) (at at' : ℕ) (e e'
 changed code bs keeps at at' e e' kept kept' s f h is same to sound stand = record {
   stands =
       ap (λ x. stands code bs at' e' x) same
-      ∙ ap (λ (k : CodeCore). record { code = code; core = k }) to
+      ∙ ap (λ (k : CodeCore). record { code = code; core = k; bases = bases_of bs kept }) to
       ∙ ap (λ (x : Standing). record x { core = f x.core }) is;
   holds = (h.0, sound, still (plain_code code) bs keeps e.slots e'.slots kept kept' stand same h.2);
 }

@@ -64,16 +64,6 @@ step_found code bs at e kept s n x h is number found =
     ∙ ap (option_map (plain_step (variables_by_slots code m (slice_get code.bodies m)))) (subst (λ k. step_of (slice_get code.bodies k) at ≡ Some x) number found)
     ∙ ap (λ v. Some (plain_step v x)) (sym (variables_here code bs at e kept (innermost_of bs (plain_code code) e h))))
 
--- the same of a step at another place
-pub ahead_found : (code : Code) (bs : BasesState) (at : ℕ) (e : Here) (kept : List (Here × Kept)) (s : Standing) (n place : ℕ) (x : Step) → IsSound (plain_code code) bs e → stands code bs at e kept ≡ s → n ≡ body_in (reverse e.activations) →
-    step_of (slice_get code.bodies n) place ≡ Some x → fetch (plain_code s.code) s.core.now.body place ≡ Some (plain_step (variables s.core) x)
-ahead_found code bs at e kept s n place x h is number found =
-    let m = body_in (reverse e.activations) in
-    subst (λ (t : Standing). fetch (plain_code t.code) t.core.now.body place ≡ Some (plain_step (variables t.core) x)) is
-    (fetched code m place
-    ∙ ap (option_map (plain_step (variables_by_slots code m (slice_get code.bodies m)))) (subst (λ k. step_of (slice_get code.bodies k) place ≡ Some x) number found)
-    ∙ ap (λ v. Some (plain_step v x)) (sym (variables_here code bs at e kept (innermost_of bs (plain_code code) e h))))
-
 no_step : (code : Code) (bs : BasesState) (at : ℕ) (e : Here) (kept : List (Here × Kept)) (s : Standing) (n : ℕ) → stands code bs at e kept ≡ s → n ≡ body_in (reverse e.activations) →
     step_of (slice_get code.bodies n) at ≡ None → fetch (plain_code s.code) s.core.now.body s.core.now.at ≡ None
 no_step code bs at e kept s n is number none =

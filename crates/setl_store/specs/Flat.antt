@@ -1,9 +1,12 @@
 -- How the activations lie in flat lists of slots, operands and members. No public clause cites this module.
-use Rattle.std.specs.Prelude.{◌≡◌, Bool, false, ℕ, ◌-◌, ◌+◌, ◌<◌, ◌≤◌, ◌^◌, List, [], ◌∷◌, ◌++◌, length, take, drop, map, reverse, Option, Some, None, slice_get, slice_set}
+use Rattle.std.specs.Prelude.{◌≡◌, Bool, false, ℕ, zero, suc, ◌-◌, ◌+◌, ◌<◌, ◌≤◌, ◌^◌, List, [], ◌∷◌, ◌++◌, length, take, drop, map, reverse, Option, Some, None, slice_get, slice_set}
+use Rattle.std.specs.FinMap as finmap
+use Rattle.std.specs.Option.{option_map_or}
 use Rattle.setl_value.specs.Datum.{bool}
 use Rattle.setl_value.specs.code.DatumOf.{datum}
 use Rattle.setl_value.specs.declared.Value.TheVariants as value
 use Rattle.setl_model_runs.specs.Variable.{Variable}
+use Rattle.setl_model.specs.Entered.{Base}
 use Rattle.setl_store_environment.specs.Environment.{Contents}
 use Rattle.setl_code.specs.declared.code.Body.{Body}
 use Rattle.setl_code.specs.declared.code.Code.{Code}
@@ -15,8 +18,10 @@ use Rattle.setl_code.specs.Plain.{plain_code}
 use Rattle.setl_code.specs.CodeCore as core
 use Rattle.setl_code.specs.CodeCore.{Cells, Activation, Copy, CodeCore}
 use Rattle.setl_rep_bases.specs.declared.BaseId.{BaseId}
+use Rattle.setl_rep_bases.specs.BaseId.{main}
 use Rattle.setl_rep_bases.specs.Bases.{BasesState, base_at}
 use Rattle.setl_rep_bases.specs.Marks.{Marks}
+use Rattle.setl_rep_entering.specs.Entering.{values_in}
 use Rattle.setl_rep_plain.specs.Standing.{held_value}
 use Rattle.setl_store_kept.specs.Kept.{kept_shown, KeptSound}
 use Rattle.setl_store_slots.specs.Slots.{AreStanding}
@@ -149,9 +154,25 @@ core_of c bs at e kept = record {
   world = no_world;
 }
 
+-- how many members the main program's base of this number had by marks
+abbrev pub count_in : ℕ → Marks → ℕ
+count_in n ms = option_map_or (λ m. m.count) (finmap.get ms (main n)) 0
+
+abbrev pub base_of : BasesState → List (Here × Kept) → ℕ → Base
+base_of bs kept n = record { members = values_in (base_at bs (main n)); kept = map (λ k. count_in n (marks_in k.1)) kept }
+
+-- so many of the main program's bases, from the n-th on
+abbrev pub bases_from : (n count : ℕ) → BasesState → List (Here × Kept) → List Base
+bases_from n zero bs kept = []
+bases_from n (suc count) bs kept = base_of bs kept n ∷ bases_from (suc n) count bs kept
+
+-- the bases that a store tells
+abbrev pub bases_of : BasesState → List (Here × Kept) → List Base
+bases_of bs kept = bases_from 0 bs.count bs kept
+
 -- what a store over this environment stands for
 abbrev pub stands : Code → BasesState → ℕ → Here → List (Here × Kept) → Standing
-stands code bs at e kept = record { code = code; core = core_of (plain_code code) bs at e kept }
+stands code bs at e kept = record { code = code; core = core_of (plain_code code) bs at e kept; bases = bases_of bs kept }
 
 -- ---- what always holds
 
@@ -194,6 +215,10 @@ pub record WasSound (c : plain.Code) (bs : BasesState) (e : Here) : Type 0 where
   pub sound : IsSound c bs e
   pub answered : now_operands bs e ≡ core.Result (Some (bool false)) ∷ drop 1 (now_operands bs e)
   pub standing : AreStanding bs e.slots
+
+-- no base was cut
+abbrev pub AreUncut : BasesState → Type 0
+AreUncut bs = (i : BaseId) → (base_at bs i).cuts ≡ 0
 
 -- These slots stand over the bases, and each kept one over the bases cut to its marks. Each cut uses up a kept one, so that no
 -- instance was cut more often than something was kept.

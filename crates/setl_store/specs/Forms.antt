@@ -5,12 +5,14 @@ use Rattle.setl_value.specs.WellFormed.{PartIsWellFormed}
 use Rattle.setl_operators_table.specs.Outcome.{Outcome, Gives}
 use Rattle.setl_model_runs.specs.Variable.{Variable}
 use Rattle.setl_code.specs.CodeCore.{There, held, write}
+use Rattle.setl_modes.specs.Modes.{Mode}
+use Rattle.setl_store.specs.Gained.{with_part}
 use Rattle.setl_store.specs.Standing.{Standing}
 
--- a variable has what is given of the well-formed value that it held, without a charge, whatever turns are left; or all is as
--- before
-abbrev pub UpdatesFreely : (gives : Option Datum → ℕ → Outcome) → Variable → Standing → Standing → Bool → Type 0
-UpdatesFreely gives x old new true =
+-- a variable has what is given of the well-formed value that it held, without a charge, whatever turns are left, and the values at
+-- its places of this mode are entered; or all is as before
+abbrev pub UpdatesFreely : (gives : Option Datum → ℕ → Outcome) → Mode → Variable → Standing → Standing → Bool → Type 0
+UpdatesFreely gives m x old new true =
     (before after : Option Datum) × (held x old.core ≡ There before) × PartIsWellFormed before × ((left : ℕ) → gives before left ≡ Gives after 0)
-    × (new ≡ record old { core = write x (There after) old.core })
-UpdatesFreely gives x old new false = new ≡ old
+    × (new ≡ record old { core = write x (There after) old.core; bases = with_part m after old.bases })
+UpdatesFreely gives m x old new false = new ≡ old

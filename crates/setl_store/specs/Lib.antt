@@ -1,3 +1,4 @@
+pub mod Gained
 pub mod Standing
 pub mod Operands
 pub mod Bodies

@@ -1,16 +1,18 @@
--- What a store stands for: its code, and the core of the code's run but for the world, with all that is kept.
+-- What a store stands for: its code, the core of the code's run but for the world, with all that is kept, and the bases that it
+-- tells.
 use Rattle.std.specs.Prelude.{◌≡◌, ◌<◌, ◌+◌, ◌^◌, ℕ, suc, Bool, true, false, List, [], ◌∷◌, map, Option, Some, None, Result, Ok, Err, slice_get}
 use Rattle.std.specs.Option.{option_map}
 use Rattle.setl_value.specs.Datum.{Datum, bool, set, tuple}
 use Rattle.setl_value.specs.code.DatumOf.{datum}
+use Rattle.setl_model.specs.Entered.{Base}
 use Rattle.setl_model.specs.World.{World}
 use Rattle.setl_code.specs.declared.code.Code.{Code}
 use Rattle.setl_model_runs.specs.Variable.{Variable}
 use Rattle.setl_code.specs.Code as plain
 use Rattle.setl_code.specs.Code.{Body}
-use Rattle.setl_code.specs.Machine.{fetch}
 use Rattle.setl_code.specs.Plain.{Variables, plain_code}
 use Rattle.setl_code.specs.CodeCore.{cleared, variables_of, Copy, Held, There, Gone, Operand, Result as Holds, Iterator, PairIterator, Collecting, value_of, CodeCore}
+use Rattle.setl_store.specs.Gained.{no_members}
 use Rattle.setl_store.specs.declared.store.Content.{Content}
 use Rattle.setl_store.specs.declared.store.Content.TheVariants as content
 use Rattle.setl_store.specs.declared.store.Top.{Top}
@@ -22,13 +24,14 @@ pub use Rattle.setl_store_operands.specs.Operands.{iterator_by}
 pub record Standing : Type 0 where
   pub code : Code
   pub core : CodeCore
+  pub bases : List Base
 
 abbrev pub no_world : World
 no_world = record { input = []; eof = false; atom = 0; left = 0 }
 
--- at the first step of the main body
-abbrev pub started : Code → Standing
-started c = record {
+-- at the first step of the main body, with so many bases
+abbrev pub started : ℕ → Code → Standing
+started n c = record {
   code = c;
   core =
       record {
@@ -38,6 +41,7 @@ started c = record {
         kept = [];
         world = no_world;
       };
+  bases = no_members n;
 }
 
 -- the variables in hand, by their slots
@@ -106,10 +110,6 @@ Becomes (Err e) old new made = new ≡ old
 -- there is a number for the step behind the one in hand, as there is where the body has a step in hand
 abbrev pub CanGoOn : Standing → Type 0
 CanGoOn s = s.core.now.at + 1 < 2 ^ 64
-
--- the step so many steps behind the one in hand, in the body at work
-abbrev pub IsAhead : Standing → ℕ → plain.Step → Type 0
-IsAhead s n step = fetch (plain_code s.code) s.core.now.body (s.core.now.at + n) ≡ Some step
 
 -- what a slot holds
 abbrev pub IsHeld : Held → Content → Type 0

@@ -1,9 +1,10 @@
 //! `ok`, `fail` and `succeed`.
 
-ghost use Rattle.std.specs.Prelude.{◌≡◌, ◌∷◌, length, nat_lt, true, false, OnOk, OnErr};
+ghost use Rattle.std.specs.Prelude.{◌≡◌, ◌∷◌, cond, length, nat_lt, true, false, OnOk, OnErr};
 ghost use Rattle.setl_value.specs.declared.Value.TheVariants as value;
 ghost use Rattle.setl_store_operands.specs.declared.cells.Operand.TheVariants as operand;
 ghost use Rattle.setl_store.specs.Flat.{answering};
+ghost use Rattle.setl_store.specs.Gained.{with_kept, cut_to_kept, without_kept};
 ghost use Rattle.setl_store.specs.Standing.{kept, Restored, Forgotten, Becomes, CanGoOn};
 
 use crate::cells::{Contents, Kept};
@@ -21,7 +22,7 @@ impl<'c> Store<'c> {
     /// The error is want of memory, or that something was kept 2^63 - 1 times, which no run does, and then all is as before.
     pub fn keep(&mut self) -> Result<(), AllocError>
         requires { CanGoOn self.old }
-        ensures { Becomes result self.old self.new (record self.old { core = kept self.old.core }) }
+        ensures { Becomes result self.old self.new (record self.old { core = kept self.old.core; bases = with_kept self.old.bases }) }
     {
         setl_rep_bases::laws::cuts_are_exact();
         if self.keeps == MOST_KEEPS {
@@ -40,6 +41,7 @@ impl<'c> Store<'c> {
     pub fn back(&mut self) -> bool
         ensures code { self.new.code ≡ self.old.code }
         ensures back { Restored result self.old.core self.new.core }
+        ensures bases { self.new.bases ≡ cond result (cut_to_kept self.old.bases) self.old.bases }
     {
         setl_rep_bases::laws::cuts_are_exact();
         setl_rep_updates::laws::forms_of_main_stay();
@@ -58,6 +60,7 @@ impl<'c> Store<'c> {
         requires { CanGoOn self.old }
         ensures code { self.new.code ≡ self.old.code }
         ensures forgotten { Forgotten result self.old.core self.new.core }
+        ensures bases { self.new.bases ≡ cond result (without_kept self.old.bases) self.old.bases }
     {
         setl_rep_bases::laws::cuts_are_exact();
         setl_rep_updates::laws::forms_of_main_stay();

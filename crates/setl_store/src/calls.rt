@@ -1,14 +1,15 @@
 //! The start of a code, its steps, and calls and returns of its bodies.
 
-ghost use Rattle.std.specs.Prelude.{◌≡◌, ◌<◌, ◌+◌, ◌^◌, Some, None, map, length, slice_get, IfSome, IfNone, IfOk, OnErr};
+ghost use Rattle.std.specs.Prelude.{◌≡◌, ◌<◌, ◌^◌, ◌+◌, [], Some, None, cond, map, length, slice_get, IfSome, IfNone, IfOk, OnErr};
 ghost use Rattle.setl_code.specs.Machine.{fetch};
 ghost use Rattle.setl_code.specs.MayRun.{MayRun, InstrFits};
 ghost use Rattle.setl_code.specs.Plain.{plain_code, plain_step};
 ghost use Rattle.setl_value.specs.code.DatumOf.{part};
 ghost use Rattle.setl_store.specs.Bodies.{entered, left, Leaves};
-ghost use Rattle.setl_store.specs.Flat.{step_of};
+ghost use Rattle.setl_store.specs.Flat.{bases_of, step_of, AreUncut};
+ghost use Rattle.setl_store.specs.Gained.{no_members};
 ghost use Rattle.setl_store.specs.Returning.{name_count_of, parameter_count_of};
-ghost use Rattle.setl_store.specs.Standing.{started, variables, variables_in, Becomes, CanGoOn, IsAhead};
+ghost use Rattle.setl_store.specs.Standing.{started, variables, variables_in, Becomes, CanGoOn};
 
 use crate::activations::{
     add_activation, add_cleared, end_activation, innermost, members_of_lower,
@@ -17,22 +18,26 @@ use crate::cells::{Contents, Frame};
 use crate::returning::handed_back;
 use crate::store::Store;
 use setl_code::{Code, Step};
-use setl_rep_bases::Bases;
+use setl_rep_bases::{BaseId, Bases};
 use setl_store_environment::Environment;
 use setl_value::Value;
 use std::alloc::{AllocError, Global};
 
 impl<'c> Store<'c> {
     /// At the first step of the main program of a code, with every variable `om`, and so many bases of the main program
-    /// without members.
+    /// without members, which the store tells or not.
     ///
     /// The error is want of memory.
-    pub fn start(alloc: Global, code: &'c Code, bases: u32) -> Result<Store<'c>, AllocError>
+    pub fn start(
+        alloc: Global,
+        code: &'c Code,
+        bases: u32,
+        told: bool,
+    ) -> Result<Store<'c>, AllocError>
         requires { MayRun code.now }
-        ensures { IfOk result (λ store. store ≡ started code.now) }
+        ensures { IfOk result (λ store. store ≡ started (cond told bases 0) code.now) }
     {
-        setl_rep_bases::laws::instances_are_read();
-        let instances = Bases::new(alloc, bases)?;
+        let instances = empty_bases(alloc, bases, told)?;
         let mut environment: Contents = Environment::new(alloc)?;
         let slots = code.vars.len();
         add_cleared(&mut environment, slots)?;
@@ -84,19 +89,6 @@ impl<'c> Store<'c> {
         step_at(self.code, innermost(&self.environment).body, self.at)
     }
 
-    /// The step so many steps behind the one in hand, in the body at work, if there is one. It takes no memory.
-    #[inline(always)]
-    pub fn step_ahead(&self, n: usize) -> Option<&'c Step>
-        ensures some { IfSome result (λ step. IsAhead self.now n (plain_step (variables self.now.core) step.now)) }
-        ensures fits { IfSome result (λ step. InstrFits (length self.now.core.globals) (length self.now.core.now.own) step.now.what) }
-        ensures few { IfSome result (λ step. self.now.core.now.at + n + 1 < 2 ^ 64) }
-    {
-        let Some(at) = self.at.checked_add(n) else {
-            return None;
-        };
-        step_at(self.code, innermost(&self.environment).body, at)
-    }
-
     /// Has the body of this number at work, with these values in its parameters. The body that calls it goes on behind
     /// the step in hand.
     ///
@@ -126,6 +118,7 @@ impl<'c> Store<'c> {
     /// The error is want of memory, and then all is as before.
     pub fn leave(&mut self, value: Option<Value>) -> Result<bool, AllocError>
         ensures code { self.new.code ≡ self.old.code }
+        ensures bases { self.new.bases ≡ self.old.bases }
         ensures left { IfOk result (λ done. Leaves (left (slice_get (plain_code self.old.code).bodies self.old.core.now.body) (part value) self.old.core) done self.old.core self.new.core) }
         ensures refused { OnErr result (self.new ≡ self.old) }
     {
@@ -145,6 +138,24 @@ impl<'c> Store<'c> {
         self.at = frame.from;
         Ok(true)
     }
+}
+
+/// So many bases of the main program, without members, which are told or not.
+fn empty_bases(alloc: Global, count: u32, told: bool) -> Result<Bases, AllocError>
+    ensures { IfOk result (λ bases. AreUncut bases × (bases_of bases [] ≡ no_members (cond told count 0))) }
+{
+    setl_rep_bases::laws::instances_are_read();
+    if told {
+        return Bases::new(alloc, count);
+    }
+    let mut bases = Bases::new(alloc, 0)?;
+    for base in 0..count {
+        let name = BaseId { base, instance: 0 };
+        if !bases.has(name) {
+            bases.add(alloc, name)?;
+        }
+    }
+    Ok(bases)
 }
 
 /// A step of the body of this number, if there is one.

@@ -17,7 +17,7 @@ use Rattle.setl_rep_updates.specs.Updates.{IsUpdate}
 use Rattle.setl_store_slots.specs.declared.cells.Held.{Held}
 use Rattle.setl_store_slots.specs.declared.cells.Held.TheVariants as held
 use Rattle.setl_store_slots.specs.Slots.{content_of, IsStanding}
-use Rattle.setl_store_slots.specs.Updates.{IsSlotUpdate}
+use Rattle.setl_store_slots.specs.Updates.{IsEntered, IsSlotUpdate}
 use Rattle.setl_store_slots.proofs.Growing.{same_grown, lengthened_grown}
 
 -- a value is at most 500 deep
@@ -39,6 +39,7 @@ nothing_done gives bs cs h g same is standing = record {
   standing = subst (λ ds. IsStanding ds g) (sym same) (subst (IsStanding bs) (sym is) standing);
   grown = same_grown bs cs same;
   done = λ e. absurd (cc);
+  entered = λ e. absurd (cc);
   nothing = λ e. (same, (λ i. content_of (same i) (is i)));
   refused = tt;
 }
@@ -52,6 +53,7 @@ slot_updated kept gives bs cs m f g (Ok true) h u =
       standing = form_standing cs m g u.held;
       grown = lengthened_grown kept (mode_of m) l.0 bs cs l.2;
       done = λ e. record { before = stands bs (form f); after = stands cs (form g); was = refl; formed = value_formed (stands bs (form f)) h.value; is = refl; given = u.value refl };
+      entered = λ e. subst (λ v. IsEntered bs cs (held.Based m f) (Some v)) (sym l.1) (h.there, l.2);
       nothing = λ e. absurd (cc);
       refused = tt;
     }
@@ -61,6 +63,7 @@ slot_updated kept gives bs cs m f g (Ok false) h u =
       standing = form_standing cs m g u.held;
       grown = same_grown bs cs n.0;
       done = λ e. absurd (cc);
+      entered = λ e. absurd (cc);
       nothing = λ e. (n.0, (λ i. Some (stands (n.0 i) (n.1 i))));
       refused = tt;
     }
@@ -69,6 +72,7 @@ slot_updated kept gives bs cs m f g (Err e) h u =
       standing = form_standing cs m g u.held;
       grown = same_grown bs cs u.refused.0;
       done = tt;
+      entered = tt;
       nothing = tt;
       refused = (u.refused.0, (λ i. Some (stands (u.refused.0 i) (u.refused.1 i))));
     }

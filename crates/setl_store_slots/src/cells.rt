@@ -1,12 +1,15 @@
 //! What slots hold.
 
-ghost use Rattle.std.specs.Prelude.{◌≡◌, IfOk};
+ghost use Rattle.std.specs.Prelude.{◌≡◌, true, IfOk};
 ghost use Rattle.std.specs.Option.{option_map};
+ghost use Rattle.setl_modes.specs.Modes.{mode_of};
 ghost use Rattle.setl_value.specs.code.DatumOf.{part};
 ghost use Rattle.setl_store_slots.specs.Slots.{content_of, IsStanding};
+ghost use Rattle.setl_store_slots.specs.Updates.{IsOfMode};
 
 use crate::shared::Shared;
 use setl_modes::Mode;
+use setl_modes_same::same_mode;
 use setl_rep_bases::Bases;
 use setl_rep_plain::plain;
 use setl_store_environment::Copied;
@@ -51,5 +54,15 @@ pub fn content(
         Held::Value(value) => Ok(Some(Some(value.copy()?))),
         Held::Taken => Ok(None),
         Held::Based(_, held) => Ok(Some(plain(alloc, held.get(), bases)?)),
+    }
+}
+
+/// Whether a slot holds something in the form of this mode.
+pub fn is_of_mode(slot: &Held, mode: &Mode) -> bool
+    ensures { result ≡ true → IsOfMode (mode_of mode.now) slot.now }
+{
+    match slot {
+        Held::Based(own, _) => same_mode(own.get(), mode),
+        Held::Om | Held::Value(_) | Held::Taken => false,
     }
 }

@@ -1,9 +1,9 @@
 //! Values go into slots in the forms of their modes.
 
-ghost use Rattle.std.specs.Prelude.{◌≡◌, true, Some, IfOk, OnErr};
+ghost use Rattle.std.specs.Prelude.{◌≡◌, true, Some, IfOk, OnOk, OnErr};
 ghost use Rattle.setl_modes.specs.Fits.{datum_fits};
 ghost use Rattle.setl_modes.specs.Modes.{mode_of};
-ghost use Rattle.setl_rep_entering.specs.Entering.{BasesAreThere};
+ghost use Rattle.setl_rep_entering.specs.Entering.{AreLengthened, BasesAreThere};
 ghost use Rattle.setl_rep_entering.specs.Laws.{PlacesAreFound};
 ghost use Rattle.setl_store_slots.specs.Slots.{content_of, IsStanding};
 ghost use Rattle.setl_store_slots.specs.Updates.{AreGrown};
@@ -32,6 +32,7 @@ pub fn formed(
     ensures standing { IfOk result (IsStanding bases.new) }
     ensures value { IfOk result (λ h. content_of bases.new h ≡ Some (Some (datum value.now))) }
     ensures grown { AreGrown bases.old bases.new }
+    ensures lengthened { OnOk result (AreLengthened (mode_of mode.now) (datum value.now) 0 bases.old bases.new) }
     ensures refused { OnErr result (bases.new ≡ bases.old) }
 {
     setl_rep_entering::laws::places_are_members();

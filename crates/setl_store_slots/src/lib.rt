@@ -8,7 +8,7 @@ mod handing;
 mod shared;
 mod updating;
 
-pub use cells::{Held, content};
+pub use cells::{Held, content, is_of_mode};
 pub use forming::formed;
 pub use handing::handed_back;
 pub use shared::Shared;

@@ -95,7 +95,7 @@ only_main p m =
     }
 
 -- a table of these declarations serves the code of a store that was started
-pub serves : StartsFit → (code : RustCode) (declared : List Declared) (d : DeclarationTable) (store : Standing) → d ≡ record { code = code; declared = declared } → store ≡ started code → IsBare (plain_code code) → AreOfMain (map plain_declared declared) → Serves d store
+pub serves : StartsFit → (code : RustCode) (declared : List Declared) (d : DeclarationTable) (store : Standing) → d ≡ record { code = code; declared = declared } → store ≡ started 0 code → IsBare (plain_code code) → AreOfMain (map plain_declared declared) → Serves d store
 serves starts code declared d store made begun bare main = record {
   same = ap (λ (t : DeclarationTable). t.code) made ∙ sym (ap (λ (s : Standing). s.code) begun);
   bare = subst (λ (s : Standing). IsBare (plain_code s.code)) (sym begun) bare;

@@ -266,7 +266,7 @@ module _ (modes : Modes) (turns : ℕ) where
       × outcome.ReadsOnly modes (plain_code store.code) n (stood_for store.core first rest) s.output.held u.output.held s.input.held u.input.held
       × Hears modes (plain_code store.code) n (stood_for store.core first rest) s.watchers u.watchers e
 
-  told_fresh : (code : RustCode) (s u : Streams) (core : CodeCore) (control : ControlState) (e : End) → Told (started code) fresh s u core control e → (e ≡ end.Paused → ⊥) → TakesOff s.input.held u.input.held → StaysHonest false s.input.held control.reader.ended u.input.held → RunsCode (plain_code code) modes turns s u e
+  told_fresh : (code : RustCode) (s u : Streams) (core : CodeCore) (control : ControlState) (e : End) → Told (started 0 code) fresh s u core control e → (e ≡ end.Paused → ⊥) → TakesOff s.input.held u.input.held → StaysHonest false s.input.held control.reader.ended u.input.held → RunsCode (plain_code code) modes turns s u e
   told_fresh code s u core control e told whole took honest =
       let rest : List ℕ = input_of (ahead control.reader.ended u.input.held) in
       let r = told rest (is_rest (ahead control.reader.ended u.input.held)) in
@@ -284,7 +284,7 @@ module _ (modes : Modes) (turns : ℕ) where
       }
 
   -- a whole run of the machine from a store that was started and a new control
-  pub code_ran : (code : RustCode) (store : Standing) (first : ControlState) (s u : Streams) (core : CodeCore) (control : ControlState) (e : End) → store ≡ started code → first ≡ fresh → Told store first s u core control e → (e ≡ end.Paused → ⊥) → TakesOff s.input.held u.input.held → StaysHonest first.reader.ended s.input.held control.reader.ended u.input.held → RunsCode (plain_code code) modes turns s u e
+  pub code_ran : (code : RustCode) (store : Standing) (first : ControlState) (s u : Streams) (core : CodeCore) (control : ControlState) (e : End) → store ≡ started 0 code → first ≡ fresh → Told store first s u core control e → (e ≡ end.Paused → ⊥) → TakesOff s.input.held u.input.held → StaysHonest first.reader.ended s.input.held control.reader.ended u.input.held → RunsCode (plain_code code) modes turns s u e
   code_ran code store first s u core control e begun new told whole took honest =
-      told_fresh code s u core control e (subst (λ c. Told (started code) c s u core control e) new (subst (λ t. Told t first s u core control e) begun told)) whole took
+      told_fresh code s u core control e (subst (λ c. Told (started 0 code) c s u core control e) new (subst (λ t. Told t first s u core control e) begun told)) whole took
       (subst (λ c. StaysHonest c.reader.ended s.input.held control.reader.ended u.input.held) new honest)

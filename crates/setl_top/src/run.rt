@@ -54,7 +54,7 @@ fn run_code<I: Source, O: Sink>(
 {
     declared_variables_fit();
     let declarations = Declarations::new(alloc, code, declared)?;
-    let mut store = Store::start(alloc, code, bases_named(declared))?;
+    let mut store = Store::start(alloc, code, bases_named(declared), false)?;
     let mut control = Control::new(alloc, turns)?;
     Ok(run_watched(
         &declarations,

@@ -3,8 +3,9 @@ use Rattle.std.specs.Prelude.{ℕ, ◌-◌, Bool, List, ◌++◌, Option}
 use Rattle.setl_tree.specs.declared.kind.Kind.{Kind}
 use Rattle.setl_tree.specs.declared.kind.Kind.TheVariants as k
 use Rattle.setl_tree.specs.declared.mode.ReprLine.{ReprLine}
-use Rattle.setl_tree.specs.declared.stmt.Branch.{Branch}
-use Rattle.setl_tree.specs.declared.stmt.Stmt.{Stmt}
+use Rattle.setl_tree.specs.declared.stmt.Branch.{Branch, roll-Branch}
+use Rattle.setl_tree.specs.declared.stmt.Stmt.{Stmt, roll-Stmt}
+use Rattle.setl_tree.specs.declared.stmt.StmtKind.{StmtKind}
 use Rattle.setl_tree.specs.declared.tree.Declared.{Declared}
 use Rattle.setl_tree.specs.declared.tree.Param.{Param}
 use Rattle.setl_tree.specs.declared.tree.Proc.{Proc}
@@ -18,6 +19,14 @@ use Rattle.setl_parse_reading.specs.code.Reading.{Reader, ◌>>=◌, ◌>>◌, p
 use Rattle.setl_parse_reading.specs.code.ReadExpressions.{nested, expr, iters, condition}
 use Rattle.setl_parse_reading.specs.code.ReadStatements.{place_selectors, stmts, elseifs, else_part, ending}
 use Rattle.setl_parse_reading.specs.code.ReadPrograms.{optional_name, named_ending, begins_proc, proc_word, vars, procs, program_end}
+
+-- a statement with its line
+abbrev pub stmt_of : ℕ → StmtKind → Stmt
+stmt_of line kind = roll-Stmt (record { line = line; kind = kind })
+
+-- a condition with the statements that it guards
+abbrev pub branch_of : Expr → List Stmt → Branch
+branch_of condition body = roll-Branch (record { condition = condition; body = body })
 
 -- what was read, and the statements that it guards
 abbrev pub guarding : {A : Type 0} → A → Reader (List Stmt) → Reader (A × List Stmt)

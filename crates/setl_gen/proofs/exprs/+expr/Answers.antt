@@ -87,7 +87,7 @@ link-returns-in_ok-put-in-Ternary t c =
 
 pub link-returns-in-Connect : goal.link-returns-in-Connect
 link-returns-in-Connect t c =
-    let k = c.in-Connect.k in
+    let k = c.in-Connect.connective in
     let y = c.get-in-Connect.result.now in
     as_link c.args.line c.args.l.now (λ e. Connect k e (plain_expr y)) (held c.args.emitter.now) (held c.connect.new.emitter)
     (connect_is c.args.l.now k c.in-Connect.x y c.in-Connect.is c.get-in-Connect.ensures) c.connect.result c.connect.ensures
@@ -133,15 +133,15 @@ pub expr-returns-in-Former : goal.expr-returns-in-Former
 expr-returns-in-Former t c =
     let v : Expr = c.get-in-Former.result.now in
     let r : List Iterator = c.as_slice-in-Former.result.now in
-    as_kind c.args.line c.args.e.now (plain.Former c.in-Former.k (plain_expr v) (plain_iterators r) (condition_of (option_map plain_expr c.in-Former.t))) (held c.args.emitter.now) (held c.former.new.emitter)
-    (former_is c.args.e.now c.in-Former.k v r c.in-Former.t (c.in-Former.is ∙ ap (λ (z : Expr). ex.Former c.in-Former.k z c.in-Former.is' c.in-Former.t) (sym c.get-in-Former.ensures) ∙ ap (λ (z : List Iterator). ex.Former c.in-Former.k v z c.in-Former.t) (sym c.as_slice-in-Former.ensures))) c.former.result c.former.ensures
+    as_kind c.args.line c.args.e.now (plain.Former c.in-Former.collection (plain_expr v) (plain_iterators r) (condition_of (option_map plain_expr c.in-Former.t))) (held c.args.emitter.now) (held c.former.new.emitter)
+    (former_is c.args.e.now c.in-Former.collection v r c.in-Former.t (c.in-Former.is ∙ ap (λ (z : Expr). ex.Former c.in-Former.collection z c.in-Former.is' c.in-Former.t) (sym c.get-in-Former.ensures) ∙ ap (λ (z : List Iterator). ex.Former c.in-Former.collection v z c.in-Former.t) (sym c.as_slice-in-Former.ensures))) c.former.result c.former.ensures
 
 pub expr-returns-in-Selection : goal.expr-returns-in-Selection
 expr-returns-in-Selection t c =
     let r : List Expr = c.as_slice-in-Selection.result.now in
     let v : Expr = c.get-in-Selection.result.now in
-    as_kind c.args.line c.args.e.now (plain.Selection c.in-Selection.k (plain_binding c.in-Selection.b) (plain_exprs r) (plain_expr v)) (held c.args.emitter.now) (held c.selection.new.emitter)
-    (selection_is c.args.e.now c.in-Selection.k c.in-Selection.b r v (c.in-Selection.is ∙ ap (λ (z : List Expr). ex.Selection c.in-Selection.k c.in-Selection.b z c.in-Selection.c) (sym c.as_slice-in-Selection.ensures) ∙ ap (λ (z : Expr). ex.Selection c.in-Selection.k c.in-Selection.b r z) (sym c.get-in-Selection.ensures))) c.selection.result c.selection.ensures
+    as_kind c.args.line c.args.e.now (plain.Selection c.in-Selection.collection (plain_binding c.in-Selection.b) (plain_exprs r) (plain_expr v)) (held c.args.emitter.now) (held c.selection.new.emitter)
+    (selection_is c.args.e.now c.in-Selection.collection c.in-Selection.b r v (c.in-Selection.is ∙ ap (λ (z : List Expr). ex.Selection c.in-Selection.collection c.in-Selection.b z c.in-Selection.c) (sym c.as_slice-in-Selection.ensures) ∙ ap (λ (z : Expr). ex.Selection c.in-Selection.collection c.in-Selection.b r z) (sym c.get-in-Selection.ensures))) c.selection.result c.selection.ensures
 
 pub head-returns-clause-place : goal.head-returns-clause-place
 head-returns-clause-place t c =

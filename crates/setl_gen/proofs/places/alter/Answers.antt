@@ -16,5 +16,5 @@ returns c =
     alter_made line (plain_alteration c.args.a) (plain_variable c.args.p.now.variable) (plain_slot (variables c.selectors.new.emitter.names) c.in_ok-slot.slot) (selectors_of c.args.p.now.selectors) (map plain_bracket c.in_ok-new.field-0) s (held c.selectors.new.emitter) (held c.put.new.self)
     (c.in_ok-selectors.ensures ∙ ap (λ (r : List Selector). after (code.selectors line (selectors_of r)) s) c.as_slice.ensures)
     c.in_ok-slot.ensures
-    (ap (λ (bs : List Bracket). map plain_bracket bs) c.in_ok-new.ensures ∙ c.in_ok-bs.ensures ∙ ap (λ (r : List Selector). code.brackets (selectors_of r)) c.as_slice-2.ensures)
+    (ap (λ (bs : List Bracket). map plain_bracket bs) c.in_ok-new.ensures ∙ c.in_ok-written.ensures ∙ ap (λ (r : List Selector). code.brackets (selectors_of r)) c.as_slice-2.ensures)
     c.in_ok-put.ensures

@@ -1,4 +1,4 @@
-use Rattle.std.proofs.Common.{Some}
+use Rattle.std.proofs.Common.{◌≡◌, ap, Some}
 use Rattle.std.proofs.lemmas.Result.{IfOk-weaker}
 use Rattle.setl_code.specs.Code.{Operate}
 use Rattle.setl_value.specs.code.DatumOf.{datum}
@@ -7,6 +7,8 @@ use Rattle.setl_machine.specs.Operating.{PutsForOne}
 use Rattle.setl_machine.proofs.Operated.{plain_on_top_alone, operated_freely_alone}
 use Rattle.setl_machine.proofs.AtOnce.{went}
 use Rattle.setl_machine.proofs.Working.{does_untested}
+use Rattle.setl_store.specs.Standing.{Standing}
+use Rattle.setl_machine.proofs.Gaining.{does_stay, stays_ok}
 use Rattle.setl_machine.proofs.at_once.operate_else.Goals as goal
 
 pub put_for_one-requires-clause-one : goal.put_for_one-requires-clause-one
@@ -31,3 +33,14 @@ returns-in-None-clause-did c = λ modes.
     let what = Operate c.args.what c.args.count in
     went modes s c.operate_any.new.store from c.operate_any.new.control c.args.line what c.operate_any.result c.went_on-in-None.result c.went_on-in-None.ensures
     (does_untested modes s c.operate_any.new.store from c.operate_any.new.control c.args.line what c.operate_any.result c.operate_any.ensures.did)
+
+pub returns-in-Some-clause-bases : goal.returns-in-Some-clause-bases
+returns-in-Some-clause-bases c =
+    let old = c.args.store.now in
+    let new = c.put_for_one.new.store in
+    stays_ok old.bases new.bases c.put_for_one.result c.went_on.result c.went_on.ensures
+    (IfOk-weaker c.put_for_one.result (λ e. PutsForOne old (Some (datum c.in-Some.value)) new e) (λ e. new.bases ≡ old.bases) (λ e h. ap (λ (s : Standing). s.bases) h.1) c.put_for_one.ensures)
+
+pub returns-in-None-clause-bases : goal.returns-in-None-clause-bases
+returns-in-None-clause-bases c =
+    does_stay c.args.store.now c.operate_any.new.store c.args.control.now c.operate_any.new.control c.args.line (Operate c.args.what c.args.count) c.operate_any.result c.went_on-in-None.result c.went_on-in-None.ensures c.operate_any.ensures.did

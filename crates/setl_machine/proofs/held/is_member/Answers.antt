@@ -1,8 +1,8 @@
-use Rattle.std.proofs.Common.{◌≡◌, ◌∙◌, ℕ, List, [], ◌∷◌, Some, IfSome, ap, sym, subst}
+use Rattle.std.proofs.Common.{◌≡◌, ◌∙◌, ℕ, [], ◌∷◌, Some, IfSome, ap, sym, subst}
 use Rattle.setl_operators_table.specs.declared.Operator.TheVariants.{In}
 use Rattle.setl_operators_table.specs.Operators.{op_of}
 use Rattle.setl_operators_table.specs.Outcome.{truth}
-use Rattle.setl_rep_forms.specs.FormOf.{form, of_plain}
+use Rattle.setl_rep_forms.specs.FormOf.{of_plain}
 use Rattle.setl_rep_forms.specs.Stands.{stands}
 use Rattle.setl_rep_plain.specs.Standing.{held_value}
 use Rattle.setl_store_operands.specs.Lending.{value_as}

@@ -1,4 +1,4 @@
-use Rattle.std.proofs.Common.{◌≡◌, ℕ, not, List, [], ◌∷◌, Some, IfSome, drop, ap, sym, subst}
+use Rattle.std.proofs.Common.{◌≡◌, ℕ, not, [], ◌∷◌, IfSome, drop, ap, sym, subst}
 use Rattle.std.proofs.lemmas.Result.{IfOk-weaker}
 use Rattle.setl_operators_table.specs.declared.Operator.TheVariants.{In}
 use Rattle.setl_operators_table.specs.Operators.{op_of}

@@ -19,5 +19,9 @@ returns-in_default-quiet_step c =
     let by = λ (rest : List ℕ). next_of modes (plain_code s.code) c.args.line (plain_instr (variables s.core) c.args.what.now) (stood_for s.core k rest) in
     record {
       did = ended_so modes by s q.new.store k q.new.control q.result c.in_default-quiet_step.not-Paused q.ensures.did;
+      gained = q.ensures.gained;
       reader = q.ensures.reader;
     }
+
+pub returns-in-Paused-clause-gained : goal.returns-in-Paused-clause-gained
+returns-in-Paused-clause-gained c = c.in-Paused.ensures.gained

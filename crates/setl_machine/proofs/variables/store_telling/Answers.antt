@@ -11,7 +11,7 @@ pub stored_events-requires : goal.stored_events-requires
 stored_events-requires c =
     let old = c.args.store.now in
     let new = c.store_in.new.store in
-    let stayed = stayed_store (modes_of c.args.declarations.now) old new c.args.line (plain_slot (variables old.core) c.args.slot) c.in_ok-end.end c.in_ok-end.ensures c.in-Paused.is in
+    let stayed = stayed_store (modes_of c.args.declarations.now) old new c.args.line (plain_slot (variables old.core) c.args.slot) c.in_ok-end.end c.in_ok-end.ensures.did c.in-Paused.is in
     slot_stays old new c.args.slot stayed.0 stayed.1 (in_body old c.body-body.result c.body-body.ensures.number c.body-body.ensures.variables) c.requires.there
 
 pub returns-in_ok-stored_events-in-Paused : goal.returns-in_ok-stored_events-in-Paused
@@ -21,7 +21,7 @@ returns-in_ok-stored_events-in-Paused c = λ from.
     let modes = modes_of c.args.declarations.now in
     let i = StoreIn (plain_slot (variables old.core) c.args.slot) in
     let events = c.in_ok-stored_events-in-Paused.field-0 in
-    let works = c.in_ok-end.ensures in
+    let works = c.in_ok-end.ensures.did in
     let stayed = stayed_store modes old new c.args.line (plain_slot (variables old.core) c.args.slot) c.in_ok-end.end works c.in-Paused.is in
     telling_on modes old new from from c.args.line i c.in_ok-end.end (Ok events) events c.in-Paused.is refl (λ rest. works.1 (world_of from rest)) works.0
     (tells_store old new from from c.args.line c.args.slot events.items stayed.0 stayed.1 (in_body old c.body-body.result c.body-body.ensures.number c.body-body.ensures.variables) c.in_ok-stored_events-in-Paused.ensures)
@@ -29,5 +29,5 @@ returns-in_ok-stored_events-in-Paused c = λ from.
 pub returns-in_default : goal.returns-in_default
 returns-in_default c = λ from.
     let old = c.args.store.now in
-    let works = c.in_ok-end.ensures in
+    let works = c.in_ok-end.ensures.did in
     telling_ends (modes_of c.args.declarations.now) old c.store_in.new.store from from c.args.line (StoreIn (plain_slot (variables old.core) c.args.slot)) c.in_ok-end.end (Err c.in_ok-end.end) c.in_default.not-Paused refl (λ rest. works.1 (world_of from rest))

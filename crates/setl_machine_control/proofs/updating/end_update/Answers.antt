@@ -27,4 +27,4 @@ returns-in-Ok-clause-did c = λ modes declared.
     subst (λ (r : Result ℕ OpFault). IfOk c.store_whole.result (λ e. EndsUpdate modes r c.args.line (plain_slot (variables old.core) slot) whole kept old from new to e)) (sym c.in-Ok.is)
     (IfOk-weaker c.store_whole.result (λ e. StoresWhole modes c.args.line (plain_slot (variables mid.core) slot) whole kept mid new e) (λ e. EndsUpdate modes (Ok c.in-Ok.left) c.args.line (plain_slot (variables old.core) slot) whole kept old from new to e)
     (λ e s. ends_stored modes old mid new from to c.args.line c.in-Ok.left c.saturating_sub.result slot whole kept e c.go_on.ensures c.charge-in-Ok.ensures charged s)
-    (c.store_whole.ensures modes (declared_moved modes old mid slot c.args.target.declared c.go_on.ensures declared)))
+    (c.store_whole.ensures.did modes (declared_moved modes old mid slot c.args.target.declared c.go_on.ensures declared)))

@@ -1,4 +1,4 @@
-use Rattle.std.proofs.Common.{◌≡◌, ◌∙◌, [], map, length, ap}
+use Rattle.std.proofs.Common.{◌≡◌, ◌∙◌, true, [], map, length, ap}
 use Rattle.std.proofs.lemmas.Result.{IfOk-weaker}
 use Rattle.setl_value.specs.code.DatumOf.{part}
 use Rattle.setl_code.specs.Code.{Putting, Combining, TakingOut, Alter}
@@ -14,6 +14,8 @@ use Rattle.setl_machine_control.specs.Working.{DoesBy}
 use Rattle.setl_machine_variables.specs.declared.altering.Updated.{Updated}
 use Rattle.setl_machine_control.specs.declared.end.End.TheVariants.{Paused}
 use Rattle.setl_machine_variables.proofs.Altered.{altered_by, stores_popped, declared_popped}
+use Rattle.setl_machine_variables.specs.Gaining.{GainsIf}
+use Rattle.setl_machine_variables.proofs.Gaining.{popped_gains}
 use Rattle.setl_machine_variables.proofs.Parts.{fitting_popped}
 use Rattle.setl_machine_variables.proofs.altering.alter.Goals as goal
 
@@ -70,3 +72,31 @@ returns-clause-stored c =
     (λ (u : Updated). u.end ≡ Paused → u.stored ≡ stores_new (plain_alteration c.args.what) (value_held (held (plain_slot (variables old.core) c.args.slot) old.core)) (selected_by (map plain_bracket c.args.brackets.now) (popped_values (popped (length (map plain_bracket c.args.brackets.now)) [] old.core.now.operands))) from.turns)
     (λ u h e. stores_popped old mid from c.args.what c.in-TakeOut.end c.args.slot c.args.brackets.now vs at u.stored off c.in_ok-values.ensures.rest (ap (map selected) c.as_slice-in-TakeOut.ensures.value ∙ c.in_ok-at.ensures) (ap plain_alteration c.in-TakeOut.is) (h e))
     (c.take_out.ensures.stored modes (declared_popped modes old mid c.args.slot c.of_slot-declared.result c.in_ok-values.ensures.rest c.of_slot-declared.ensures))
+
+pub returns-in-Put-clause-gained : goal.returns-in-Put-clause-gained
+returns-in-Put-clause-gained c =
+    let old = c.args.store.now in
+    let mid = c.pop_values.new.self in
+    let modes = modes_of c.args.declarations.now in
+    popped_gains modes old mid c.put.new.store c.args.slot true c.in_ok-end-in-Put.end c.in_ok-values.ensures.rest
+    (c.in_ok-end-in-Put.ensures.gained modes (declared_popped modes old mid c.args.slot c.of_slot-declared.result c.in_ok-values.ensures.rest c.of_slot-declared.ensures))
+
+pub returns-in-Combine-clause-gained : goal.returns-in-Combine-clause-gained
+returns-in-Combine-clause-gained c =
+    let old = c.args.store.now in
+    let mid = c.pop_values.new.self in
+    let modes = modes_of c.args.declarations.now in
+    popped_gains modes old mid c.combine.new.store c.args.slot true c.in_ok-end-in-Combine.end c.in_ok-values.ensures.rest
+    (c.in_ok-end-in-Combine.ensures.gained modes (declared_popped modes old mid c.args.slot c.of_slot-declared.result c.in_ok-values.ensures.rest c.of_slot-declared.ensures))
+
+pub returns-clause-gained : goal.returns-clause-gained
+returns-clause-gained c =
+    let old = c.args.store.now in
+    let mid = c.pop_values.new.self in
+    let modes = modes_of c.args.declarations.now in
+    let new = c.take_out.new.store in
+    IfOk-weaker c.take_out.result
+    (λ (u : Updated). GainsIf u.stored modes (plain_slot (variables mid.core) c.args.slot) mid new u.end)
+    (λ (u : Updated). GainsIf u.stored modes (plain_slot (variables old.core) c.args.slot) old new u.end)
+    (λ u g. popped_gains modes old mid new c.args.slot u.stored u.end c.in_ok-values.ensures.rest g)
+    (c.take_out.ensures.gained modes (declared_popped modes old mid c.args.slot c.of_slot-declared.result c.in_ok-values.ensures.rest c.of_slot-declared.ensures))

@@ -1,4 +1,4 @@
-use Rattle.std.proofs.Common.{◌∙◌, ◌∷◌, [], sym, subst, Some}
+use Rattle.std.proofs.Common.{◌∙◌, ◌∷◌, [], true, sym, subst, Some}
 use Rattle.std.proofs.lemmas.Result.{IfOk-weaker}
 use Rattle.setl_value.specs.code.DatumOf.{part}
 use Rattle.setl_operators_table.specs.Operators.{op_of}
@@ -11,9 +11,12 @@ use Rattle.std.specs.Prelude.{map, option_map}
 use Rattle.setl_machine_updates.specs.Updates.{Updates}
 use Rattle.setl_machine_control.specs.Settling.{EndsUpdate}
 use Rattle.setl_machine_variables.specs.Altered.{Alters, TakesHeld}
-use Rattle.setl_machine_control.specs.Declaring.{Keeps}
+use Rattle.setl_machine_control.specs.Declaring.{mode_by, Keeps}
+use Rattle.setl_machine_control.specs.Gaining.{gained_by, BasesAre}
+use Rattle.setl_machine_variables.specs.Gaining.{GainsIf}
+use Rattle.setl_machine_variables.proofs.Gaining.{hand_gains, if_ok_both}
 use Rattle.setl_machine_control.specs.Working.{PopsTop}
-use Rattle.setl_machine_variables.proofs.Altered.{changed, held_slot, declared_here}
+use Rattle.setl_machine_variables.proofs.Altered.{changed, held_slot, declared_here, taken_held}
 use Rattle.setl_machine_variables.proofs.Parts.{combined_sure}
 use Rattle.setl_machine_variables.proofs.altering.combine.Goals as goal
 
@@ -49,3 +52,24 @@ returns-clause-did c = λ modes declared fitting.
     (λ e. Alters modes old from c.args.line (Combining c.args.by) (plain_slot (variables old.core) c.args.target.slot) at new to e)
     (λ e f. changed modes old mid gone new from to c.args.line c.args.target.slot (λ w v left. combined at w (λ p now. op_of c.args.by (p ∷ v ∷ []) now) left) c.in-Some.value c.in-Some-2.whole whole (option_map part c.in_ok-kept.kept) c.combine_at-left.result e keeps pops takes updated c.combine_at-left.ensures.refused f)
     (c.end_update.ensures.did modes (declared_here modes old mid gone c.args.target.slot c.in-Some.value c.in-Some-2.whole c.args.target.declared pops takes declared))
+
+pub returns-clause-gained : goal.returns-clause-gained
+returns-clause-gained c = λ modes declared.
+    let old = c.args.store.now in
+    let mid = c.pop_top.new.store in
+    let gone = c.take_held.new.store in
+    let new = c.end_update.new.store in
+    let from = c.args.control.now in
+    let to = c.end_update.new.control in
+    let slot = c.args.target.slot in
+    let d = c.args.target.declared in
+    let pops : PopsTop old (Some c.in-Some.value) mid = rw c.in-Some.is at c.in_ok-value.ensures in
+    let takes : TakesHeld (plain_slot (variables mid.core) slot) mid (Some c.in-Some-2.whole) gone = rw c.in-Some-2.is at c.in_ok-whole.ensures in
+    let whole = part c.combine_at-left.new.whole in
+    let kept = option_map part c.in_ok-kept.kept in
+    if_ok_both c.end_update.result
+    (λ e. EndsUpdate modes c.combine_at-left.result c.args.line (plain_slot (variables gone.core) slot) whole kept gone from new to e)
+    (BasesAre (gained_by (mode_by d) whole gone.bases) gone.bases new.bases)
+    (GainsIf true modes (plain_slot (variables old.core) slot) old new)
+    (λ e u b. hand_gains modes old slot mid.core.now.operands (part c.in-Some-2.whole) whole kept gone new from to c.args.line c.combine_at-left.result true e d (taken_held old mid slot c.in-Some-2.whole gone pops.1 takes) declared u b)
+    (c.end_update.ensures.did modes (declared_here modes old mid gone slot c.in-Some.value c.in-Some-2.whole d pops takes declared)) c.end_update.ensures.gained

@@ -1,7 +1,8 @@
-use Rattle.std.proofs.Common.{◌∙◌, ap, sym, subst, Ok, Err, Some}
+use Rattle.std.proofs.Common.{◌∙◌, ◌∷◌, false, refl, ap, sym, subst, Ok, Err, Some}
 use Rattle.std.specs.Prelude.{map, option_map}
 use Rattle.setl_value.specs.code.DatumOf.{part}
 use Rattle.setl_code.specs.Code.{TakingOut}
+use Rattle.setl_code.specs.CodeCore.{Result as Holds}
 use Rattle.setl_code.specs.Plain.{plain_slot}
 use Rattle.setl_store.specs.Standing.{variables}
 use Rattle.setl_machine_updates.specs.Selectors.{selected}
@@ -11,7 +12,8 @@ use Rattle.setl_machine_variables.specs.Altered.{stores_new, TakesHeld}
 use Rattle.setl_machine_control.specs.Declaring.{Keeps}
 use Rattle.setl_machine_variables.proofs.Taking.{took_stores, no_pause}
 use Rattle.setl_machine_variables.proofs.Parts.{taken_sure}
-use Rattle.setl_machine_variables.proofs.Altered.{pushed_slot, held_slot_of, took_out, takes_not, declared_pushed, declared_gone}
+use Rattle.setl_machine_variables.proofs.Altered.{pushed_slot, held_slot_of, taken_held, taken_pushed, took_out, takes_not, declared_pushed, declared_gone}
+use Rattle.setl_machine_variables.proofs.Gaining.{hand_gains}
 use Rattle.setl_machine_variables.proofs.altering.take_out.Goals as goal
 
 pub end_update-requires-clause-there : goal.end_update-requires-clause-there
@@ -84,3 +86,27 @@ returns-in_ok-end-in-Err-clause-stored c = λ modes declared e.
     let gone = c.take_held.new.store in
     let takes : TakesHeld (plain_slot (variables old.core) c.args.target.slot) old (Some c.in-Some.whole) gone = rw c.in-Some.is at c.in_ok-whole.ensures in
     absurd (no_pause c.in-Err.fault c.args.line c.in_ok-end-in-Err.end (c.in_ok-end-in-Err.ensures.did modes (declared_gone modes old gone c.args.target.slot c.in-Some.whole c.args.target.declared takes declared)).0 e)
+
+pub returns-in_ok-end-in-Ok-clause-gained : goal.returns-in_ok-end-in-Ok-clause-gained
+returns-in_ok-end-in-Ok-clause-gained c = λ modes declared.
+    let old = c.args.store.now in
+    let gone = c.take_held.new.store in
+    let put = c.push.new.self in
+    let slot = c.args.target.slot in
+    let d = c.args.target.declared in
+    let taken = c.in-Ok.taken in
+    let takes : TakesHeld (plain_slot (variables old.core) slot) old (Some c.in-Some.whole) gone = rw c.in-Some.is at c.in_ok-whole.ensures in
+    hand_gains modes old slot (Holds (part taken.value) ∷ old.core.now.operands) (part c.in-Some.whole) (part c.take_at.new.whole) (option_map part c.tested_if-tested.result) put c.end_update.new.store c.args.control.now c.end_update.new.control c.args.line (Ok taken.left) taken.stored
+    c.in_ok-end-in-Ok.end d (taken_pushed old slot c.in-Some.whole taken.value gone put takes c.in_ok-push-in-Ok.ensures) declared
+    (c.in_ok-end-in-Ok.ensures.did modes (declared_pushed modes old gone put slot c.in-Some.whole taken.value d takes c.in_ok-push-in-Ok.ensures declared)) c.in_ok-end-in-Ok.ensures.gained
+
+pub returns-in_ok-end-in-Err-clause-gained : goal.returns-in_ok-end-in-Err-clause-gained
+returns-in_ok-end-in-Err-clause-gained c = λ modes declared.
+    let old = c.args.store.now in
+    let gone = c.take_held.new.store in
+    let slot = c.args.target.slot in
+    let d = c.args.target.declared in
+    let takes : TakesHeld (plain_slot (variables old.core) slot) old (Some c.in-Some.whole) gone = rw c.in-Some.is at c.in_ok-whole.ensures in
+    hand_gains modes old slot old.core.now.operands (part c.in-Some.whole) (part c.take_at.new.whole) (option_map part c.in_ok-kept.kept) gone c.end_update-in-Err.new.store c.args.control.now c.end_update-in-Err.new.control c.args.line (Err c.in-Err.fault) false
+    c.in_ok-end-in-Err.end d (taken_held old old slot c.in-Some.whole gone refl takes) declared
+    (c.in_ok-end-in-Err.ensures.did modes (declared_gone modes old gone slot c.in-Some.whole d takes declared)) c.in_ok-end-in-Err.ensures.gained

@@ -8,12 +8,12 @@ use Rattle.setl_machine_variables.proofs.Freely.{altering}
 use Rattle.setl_machine_variables.proofs.Parts.{mode_is}
 use Rattle.setl_machine_variables.proofs.in_place.new_integer.Goals as goal
 
-pub returns-then-surely_takes : goal.returns-then-surely_takes
-returns-then-surely_takes c =
+pub returns-then-not-enters-clause-freely : goal.returns-then-not-enters-clause-freely
+returns-then-not-enters-clause-freely c =
     let k = c.args.store.now.core in
     let modes = modes_of c.args.declarations.now in
     let x = plain_slot (variables k) c.args.slot in
     let new = datum c.in-Some-freely.new in
     let takes = c.if-surely_takes.ensures refl in
     altering modes (plain_alteration c.args.what) x c.args.brackets.now k c.in-Combine.by c.in-Value.whole c.in-Some.value new
-    (ap (λ m. is_taken m (Some new)) (mode_is modes x c.of_slot.result c.of_slot.ensures) ∙ takes) (omega (arith, c.if-count-gt0.false)) (ap plain_alteration c.in-Combine.is) c.in-Value.ensures c.in-Some.ensures c.in-Some-freely.ensures
+    (ap (λ m. is_taken m (Some new)) (mode_is modes x c.of_slot-declared.result c.of_slot-declared.ensures) ∙ takes) (omega (arith, c.if-count-gt0.false)) (ap plain_alteration c.in-Combine.is) c.in-Value.ensures c.in-Some.ensures c.in-Some-freely.ensures

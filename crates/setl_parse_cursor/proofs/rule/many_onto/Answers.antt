@@ -19,9 +19,9 @@ returns-then-not-begins g c =
     let e = one_more (λ n. r.many_from (g.R.Repeated.begins_with c.args.rule.now) (g.R.Rule.reader c.args.rule.now) n c.loop-turn.found c.loop-turn.tokens) _ c.loop-turn._turn c.loop-turn-test.true c.loop-turn.invariant in
     first_of (search rules, grind (arith, common_steps))
 
-pub returns-in_err-read : goal.returns-in_err-read
+pub returns-in_err-found : goal.returns-in_err-found
 unfolding r.many_from
-returns-in_err-read g c =
+returns-in_err-found g c =
     let e = one_more (λ n. r.many_from (g.R.Repeated.begins_with c.args.rule.now) (g.R.Rule.reader c.args.rule.now) n c.loop-turn.found c.loop-turn.tokens) _ c.loop-turn._turn c.loop-turn-test.true c.loop-turn.invariant in
     first_of (search rules, grind (arith, common_steps))
 

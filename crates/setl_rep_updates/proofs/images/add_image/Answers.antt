@@ -1,12 +1,8 @@
-use Rattle.std.proofs.Common.{rules, ◌≡◌, Option, Some, subst}
-use Rattle.std.specs.Prelude.{IfSome}
+use Rattle.std.proofs.Common.{rules}
 use Rattle.setl_rep_forms.specs.FormOf.{form}
-use Rattle.setl_rep_updates.proofs.Adding.{first_added, more_added}
+use Rattle.setl_rep_updates.proofs.Adding.{at_some, first_added, more_added}
 use Rattle.setl_rep_updates.proofs.images.add_image.Goals.{in-Some+in_ok-done-in-Some, in-None+in_ok-content-in-None+in_ok-put_content-in-None}
 use Rattle.setl_rep_updates.proofs.images.add_image.Goals as goal
-
-at_some : {X : Type 0} (P : X → Type 0) (o : Option X) (r : X) → o ≡ Some r → IfSome o P → P r
-at_some P o r is h = subst (λ u. IfSome u P) is h
 
 pub returns-clause-added : goal.returns-clause-added
 returns-clause-added c = elim c.match-branch-2.branch [

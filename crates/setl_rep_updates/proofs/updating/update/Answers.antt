@@ -21,3 +21,11 @@ returns-in-Lessf-clause-update c =
     let bs = c.args.bases.now in
     let f = form c.args.held.now in
     subst (λ k. IsUpdate m n (given_by k (stands bs f)) bs bs f (form c.cut.new.f) c.cut.result) (sym c.in-Lessf.is) (c.cut.ensures.lessf m n c.requires)
+
+pub returns-in-LessImage-clause-update : goal.returns-in-LessImage-clause-update
+returns-in-LessImage-clause-update c =
+    let m = mode_of c.args.mode.now in
+    let n = c.args.instance in
+    let bs = c.args.bases.now in
+    let f = form c.args.held.now in
+    subst (λ k. IsUpdate m n (given_by k (stands bs f)) bs bs f (form c.exclude_image.new.f) c.exclude_image.result) (sym c.in-LessImage.is) (c.exclude_image.ensures.update n c.requires)

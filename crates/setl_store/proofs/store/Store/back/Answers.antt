@@ -21,3 +21,6 @@ invariant_of-self-2 c = (done c).holds
 
 pub returns-clause-back : goal.returns-clause-back
 returns-clause-back c = (done c).restored_to
+
+pub returns-clause-bases : goal.returns-clause-bases
+returns-clause-bases c = (done c).bases_cut

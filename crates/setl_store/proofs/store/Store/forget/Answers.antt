@@ -13,3 +13,6 @@ invariant_of-self-2 c = (done c).holds
 
 pub returns-clause-forgotten : goal.returns-clause-forgotten
 returns-clause-forgotten c = (done c).forgotten_to
+
+pub returns-clause-bases : goal.returns-clause-bases
+returns-clause-bases c = (done c).bases_left

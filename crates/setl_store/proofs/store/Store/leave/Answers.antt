@@ -1,9 +1,10 @@
-use Rattle.std.proofs.Common.{◌≡◌, length, reverse, slice_get, refl, Some}
+use Rattle.std.proofs.Common.{◌≡◌, length, reverse, slice_get, refl, ap, ◌∙◌, Some}
 use Rattle.setl_value.specs.code.DatumOf.{part}
 use Rattle.setl_code.specs.MayRun.{MayRun}
 use Rattle.setl_code.specs.Plain.{plain_code}
 use Rattle.setl_store.specs.Bodies.{left}
-use Rattle.setl_store.specs.Flat.{stands, results, IsSound, AllSound}
+use Rattle.setl_store.specs.Flat.{bases_of, stands, results, IsSound, AllSound}
+use Rattle.setl_store.specs.Standing.{Standing}
 use Rattle.setl_store.proofs.Leaving.{parameters_there, under, leaves, stays}
 use Rattle.setl_store.proofs.store.Store.leave.Goals as goal
 use Rattle.setl_store.proofs.store.Store.leave.Goals.{In_ok-end_activation}
@@ -36,3 +37,6 @@ invariant_of-self-2 c = (done (goal.at.invariant_of-self-2 c).In_ok-end_activati
 
 pub returns-clause-left : goal.returns-clause-left
 returns-clause-left c = (done (goal.at.returns-clause-left c).In_ok-end_activation).0
+
+pub returns-clause-bases : goal.returns-clause-bases
+returns-clause-bases c = ap (bases_of c.self.inside.bases) c.in_ok-end_activation.ensures.kept ∙ ap (λ (x : Standing). x.bases) c.self.view_is

@@ -1,13 +1,14 @@
 //! Whether modes are the same.
+#![tactic(auto)]
 
 ghost use Rattle.std.specs.Prelude.{◌≡◌};
 ghost use Rattle.setl_modes.specs.Modes.{mode_of};
-ghost use Rattle.setl_image_modes.specs.SoundModes.{same_form, same_mode};
+ghost use Rattle.setl_modes_same.specs.Same.{same_form, same_mode};
 
 use setl_modes::{Form, Mode};
 
 /// Whether two modes are the same.
-pub(crate) fn same_mode(a: &Mode, b: &Mode) -> bool
+pub fn same_mode(a: &Mode, b: &Mode) -> bool
     ensures { result ≡ same_mode (mode_of a.now) (mode_of b.now) }
 {
     match (a, b) {

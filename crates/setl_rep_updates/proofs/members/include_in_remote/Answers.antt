@@ -1,6 +1,0 @@
-use Rattle.setl_value.specs.code.DatumOf.{datum}
-use Rattle.setl_rep_updates.proofs.Adding.{in_remote}
-use Rattle.setl_rep_updates.proofs.members.include_in_remote.Goals as goal
-
-pub returns-clause-with : goal.returns-clause-with
-returns-clause-with c = in_remote c.operations_have_their_members.ensures.gather c.args.bases.now c.args.b (datum c.args.y.now) c.args.bits.now c.put_in_remote.new.bits c.requires.there c.in_ok-put_in_remote.ensures.with
