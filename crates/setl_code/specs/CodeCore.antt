@@ -72,6 +72,17 @@ held (Global name) k = held_in k.globals (Global name)
 held (Own body name) k = held_in k.now.own (Own body name)
 held (Bound former name) k = held_in k.now.own (Bound former name)
 
+-- the outermost activation: the last of those that wait, or the one at work where none waits
+abbrev pub outermost : Activation → (callers : List Activation) → Activation
+outermost a [] = a
+outermost a (b ∷ bs) = outermost b bs
+
+-- what a variable of the main program holds, whatever body is at work
+abbrev pub main_held : Variable → CodeCore → Held
+main_held (Global name) k = held_in k.globals (Global name)
+main_held (Own body name) k = held_in (outermost k.now k.callers).own (Own body name)
+main_held (Bound former name) k = held_in (outermost k.now k.callers).own (Bound former name)
+
 abbrev pub write : Variable → Held → CodeCore → CodeCore
 write (Global name) h k = record k { globals = with_held k.globals (Global name) h }
 write (Own body name) h k = record k { now = record k.now { own = with_held k.now.own (Own body name) h } }
