@@ -142,12 +142,7 @@ fn put_update(
 }
 
 // A form, and the members of the bases.
-fn state(
-    rt: &impl Abort,
-    alloc: Global,
-    h: &Held,
-    bases: &Bases,
-) -> Result<Vec<u8>, AllocError> {
+fn state(rt: &impl Abort, alloc: Global, h: &Held, bases: &Bases) -> Result<Vec<u8>, AllocError> {
     let mut shown = Vec::new(alloc);
     put_form(alloc, h, &mut shown)?;
     put_bases(rt, alloc, bases, &mut shown)?;
