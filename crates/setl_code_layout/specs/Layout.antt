@@ -1,0 +1,35 @@
+-- The dump of a state of code: the members of each base, and what each declared variable holds.
+use Rattle.std.specs.Prelude.{ℕ, List, [], ◌∷◌, ◌++◌, Option}
+use Rattle.setl_value.specs.Datum.{Datum}
+use Rattle.setl_model_runs.specs.Variable.{Variable, Global, name_of}
+use Rattle.setl_modes.specs.Modes.{Mode}
+use Rattle.setl_modes_dump.specs.Dump.{Bases, variable_line, base_lines}
+use Rattle.setl_code.specs.CodeCore.{Held, held_in, Activation, CodeCore}
+use Rattle.setl_code_events.specs.Told.{value_held}
+
+-- ---- the variables of the main program
+
+-- the main program's activation: the one at work, or the outermost of those that wait for it
+abbrev pub outermost : Activation → List Activation → Activation
+outermost now [] = now
+outermost now (a ∷ callers) = outermost a callers
+
+-- what a variable of the whole program or of the main program holds
+abbrev pub main_held : Variable → CodeCore → Held
+main_held (Global name) k = held_in k.globals (Global name)
+main_held x k = held_in (outermost k.now k.callers).own x
+
+-- and its value; one that was taken has none
+abbrev pub main_value : Variable → CodeCore → Option Datum
+main_value x k = value_held (main_held x k)
+
+-- ---- the dump
+
+abbrev pub variable_lines : Bases → List (Variable × Mode) → CodeCore → List ℕ
+variable_lines bases [] k = []
+variable_lines bases (m ∷ ms) k = variable_line bases (name_of m.0) m.1 (main_value m.0 k) ++ variable_lines bases ms k
+
+-- the dump of a state over these members of the bases, with the names of the bases and the modes of the variables in the
+-- order of their declarations
+abbrev pub code_layout : List (List ℕ) → List (Variable × Mode) → Bases → CodeCore → List ℕ
+code_layout names modes bases k = base_lines bases 0 names ++ variable_lines bases modes k
