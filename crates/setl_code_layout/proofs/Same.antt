@@ -12,7 +12,7 @@ use Rattle.setl_model.specs.Entered.{entered}
 use Rattle.setl_model.specs.Dump.{main_own, declared_value, variable_lines}
 use Rattle.setl_code.specs.Code.{Code}
 use Rattle.setl_code.specs.Names.{is_among}
-use Rattle.setl_code.specs.CodeCore.{There, Gone, Cells, held_in, CodeCore}
+use Rattle.setl_code.specs.CodeCore.{There, Gone, Cells, held_in, main_held, outermost, CodeCore}
 use Rattle.setl_code.specs.CodeCore.{Activation as CodeActivation}
 use Rattle.setl_code.specs.Sound.{may_take}
 use Rattle.setl_code_events.specs.Told.{value_held}
@@ -20,7 +20,7 @@ use Rattle.setl_code_simulation.specs.States.{Alike, BodyAtWork, bodies_at_work}
 use Rattle.setl_code_simulation.specs.States as plain
 use Rattle.setl_code_marked.specs.Marked.{declared_in}
 use Rattle.setl_code_marked_simulation.specs.States.{AlikeButTaken, SameActivations, SameCore, SameState}
-use Rattle.setl_code_layout.specs.Layout.{outermost, main_held, code_layout}
+use Rattle.setl_code_layout.specs.Layout.{code_layout}
 use Rattle.setl_code_layout.specs.Layout as code
 use Rattle.setl_code_layout.specs.Claims.{StatesLayOutAlike, MarkedStatesLayOutAlike}
 

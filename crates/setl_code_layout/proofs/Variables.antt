@@ -3,9 +3,9 @@ use Rattle.std.proofs.Common.{◌≡◌, ◌∙◌, ℕ, List, [], ◌∷◌, �
 use Rattle.setl_model_runs.specs.Variable.{Variable, Global, Own, Bound, name_of}
 use Rattle.setl_modes.specs.Modes.{Mode}
 use Rattle.setl_modes_dump.specs.Dump.{Bases, variable_line, base_lines}
-use Rattle.setl_code.specs.CodeCore.{Cells, held_in, Activation, CodeCore}
+use Rattle.setl_code.specs.CodeCore.{Cells, held_in, main_held, outermost, Activation, CodeCore}
 use Rattle.setl_code_events.specs.Told.{value_held}
-use Rattle.setl_code_layout.specs.Layout.{outermost, main_held, variable_lines}
+use Rattle.setl_code_layout.specs.Layout.{variable_lines}
 use Rattle.setl_code_layout.specs.Claims.{LaysOutVariablesAlone}
 
 outermost_cells : (now other : Activation) (callers : List Activation) → other.own ≡ now.own → (outermost other callers).own ≡ (outermost now callers).own

@@ -13,13 +13,13 @@ use Rattle.setl_model.specs.Entered.{entered}
 use Rattle.setl_model.specs.Dump.{declared_value, layout}
 use Rattle.setl_code.specs.Code.{Code}
 use Rattle.setl_code.specs.Names.{is_among}
-use Rattle.setl_code.specs.CodeCore.{There, CodeCore}
+use Rattle.setl_code.specs.CodeCore.{There, main_held, CodeCore}
 use Rattle.setl_code.specs.CodeOf.{code_of}
 use Rattle.setl_code.specs.CodeMeans.{CodeMeans}
 use Rattle.setl_code_simulation.specs.States.{SameState}
 use Rattle.setl_code_marked.specs.Marked.{declared_in, Marked}
 use Rattle.setl_code_marked_simulation.specs.States as marked
-use Rattle.setl_code_layout.specs.Layout.{main_held, code_layout}
+use Rattle.setl_code_layout.specs.Layout.{code_layout}
 
 -- ---- states
 

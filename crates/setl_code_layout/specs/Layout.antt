@@ -1,25 +1,15 @@
 -- The dump of a state of code: the members of each base, and what each declared variable holds.
 use Rattle.std.specs.Prelude.{ℕ, List, [], ◌∷◌, ◌++◌, Option}
 use Rattle.setl_value.specs.Datum.{Datum}
-use Rattle.setl_model_runs.specs.Variable.{Variable, Global, name_of}
+use Rattle.setl_model_runs.specs.Variable.{Variable, name_of}
 use Rattle.setl_modes.specs.Modes.{Mode}
 use Rattle.setl_modes_dump.specs.Dump.{Bases, variable_line, base_lines}
-use Rattle.setl_code.specs.CodeCore.{Held, held_in, Activation, CodeCore}
+use Rattle.setl_code.specs.CodeCore.{main_held, CodeCore}
 use Rattle.setl_code_events.specs.Told.{value_held}
 
 -- ---- the variables of the main program
 
--- the main program's activation: the one at work, or the outermost of those that wait for it
-abbrev pub outermost : Activation → List Activation → Activation
-outermost now [] = now
-outermost now (a ∷ callers) = outermost a callers
-
--- what a variable of the whole program or of the main program holds
-abbrev pub main_held : Variable → CodeCore → Held
-main_held (Global name) k = held_in k.globals (Global name)
-main_held x k = held_in (outermost k.now k.callers).own x
-
--- and its value; one that was taken has none
+-- what a variable of the whole program or of the main program has; one that was taken has none
 abbrev pub main_value : Variable → CodeCore → Option Datum
 main_value x k = value_held (main_held x k)
 

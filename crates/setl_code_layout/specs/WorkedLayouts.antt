@@ -1,9 +1,9 @@
 -- Worked rows of dumps of code: a program that reads a value and stops inside a procedure.
 use Rattle.std.specs.Prelude.{◌≡◌, [], ◌∷◌, codes, None, refl}
 use Rattle.setl_modes.specs.Modes.{Strings}
-use Rattle.setl_code.specs.CodeCore.{There, Gone, CodeCore}
+use Rattle.setl_code.specs.CodeCore.{There, Gone, main_held, CodeCore}
 use Rattle.setl_code_simulation.specs.WorkedStates.{a, y, letter, code_ends}
-use Rattle.setl_code_layout.specs.Layout.{main_held, main_value, code_layout}
+use Rattle.setl_code_layout.specs.Layout.{main_value, code_layout}
 
 -- `y` of the main program has the value that was read; the parameter `a` of the procedure at work has none there
 of_the_caller : main_held y code_ends.last.core ≡ There letter

@@ -26,7 +26,7 @@ by_main : (b : Bool) (n : ℕ) → (if b then main n else main n) ≡ main n
 by_main true n = refl
 by_main false n = refl
 
-named_main : (bs : BasesState) (n : ℕ) → named bs 0 n ≡ main n
+pub named_main : (bs : BasesState) (n : ℕ) → named bs 0 n ≡ main n
 named_main bs n = by_main (is_there bs (main n)) n
 
 -- ---- a store of a value

@@ -22,4 +22,5 @@ pub mod Updating
 pub mod Grown
 pub mod Entering
 pub mod Leaving
+pub mod MainProgram
 mod SmallOnes

@@ -42,7 +42,7 @@ apart x [] k a h = absurd (omega (arith, h))
 apart x (y ∷ xs) zero a h = (or_false (is_variable x y) (is_among xs x) a).0
 apart x (y ∷ xs) (suc k) a h = apart x xs k (or_false (is_variable x y) (is_among xs x) a).1 (omega (arith, h))
 
-held_at : (xs : List Variable) (hs : List core.Held) (k : ℕ) (v : core.Held) → Differ xs → k < length xs → Some v ≡ slice_get hs k → held_in (cells xs hs) (variable_at xs k) ≡ v
+pub held_at : (xs : List Variable) (hs : List core.Held) (k : ℕ) (v : core.Held) → Differ xs → k < length xs → Some v ≡ slice_get hs k → held_in (cells xs hs) (variable_at xs k) ≡ v
 held_at [] hs k v d h e = absurd (omega (arith, h))
 held_at (x ∷ xs) [] k v d h e = absurd (cc)
 held_at (x ∷ xs) (w ∷ hs) zero v d h e = ap (λ b. cond b w (held_in (cells xs hs) x)) (variable_itself x) ∙ cc

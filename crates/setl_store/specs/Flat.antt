@@ -102,6 +102,11 @@ abbrev pub place_in : List Frame → Slot → ℕ
 place_in fs (slot.Global k) = k
 place_in fs (slot.Own k) = slots_in fs + k
 
+-- the place of a slot of the outermost one
+abbrev pub main_place : Code → Slot → ℕ
+main_place c (slot.Global k) = k
+main_place c (slot.Own k) = length c.vars + k
+
 -- the innermost one, at this place
 abbrev pub activation : plain.Code → ℕ → List Frame → List core.Held → List core.Operand → Activation
 activation c at fs hs os = record { body = body_in fs; at = at; own = own_in c fs hs; operands = operands_in fs os }

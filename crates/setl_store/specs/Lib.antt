@@ -2,6 +2,7 @@ pub mod Gained
 pub mod Standing
 pub mod Operands
 pub mod Bodies
+pub mod MainProgram
 pub mod Flat
 pub mod Iterating
 pub mod HasValues

@@ -9,11 +9,13 @@ mod changes;
 mod forms;
 mod iterating;
 mod lent;
+mod main_program;
 mod operands;
 mod putting;
 mod returning;
 mod store;
 
 pub use iterating::Ahead;
+pub use main_program::Stored;
 pub use setl_operators_table::OpFault;
 pub use store::{Content, Store, Top};
