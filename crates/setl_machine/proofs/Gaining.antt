@@ -1,9 +1,11 @@
 -- What instructions make of the bases, by their events.
-use Rattle.std.proofs.Common.{◌≡◌, ◌∙◌, ℕ, zero, suc, Bool, true, false, List, [], ◌∷◌, ◌++◌, Option, Some, None, refl, sym, ap, subst}
+use Rattle.std.proofs.Common.{◌≡◌, ◌∙◌, ℕ, zero, suc, Bool, true, false, List, [], ◌∷◌, Option, Some, None, refl, sym, ap, subst}
 use Rattle.std.specs.Prelude.{cond, length, slice_get, IfOk, IfSome, Result, Ok, Err}
+use Rattle.std.specs.Global.{Vec}
 use Rattle.std.specs.declared.alloc.AllocError.{AllocError}
 use Rattle.std.proofs.lemmas.Result.{IfOk-weaker}
 use Rattle.setl_value.specs.Datum.{Datum}
+use Rattle.setl_text.specs.Texts.{print_line}
 use Rattle.setl_modes.specs.Modes.{Mode}
 use Rattle.setl_modes_places.specs.Places.{lengthened}
 use Rattle.setl_model.specs.Entered.{Base, with_event, elements_of_store}
@@ -15,7 +17,7 @@ use Rattle.setl_model.specs.World.{World}
 use Rattle.setl_program.specs.Program.{Parameter}
 use Rattle.setl_code.specs.declared.code.Instr as code
 use Rattle.setl_code.specs.declared.code.Instr.TheVariants as i
-use Rattle.setl_code.specs.Code.{Code, Instr, Body, Alteration, Bracket, StoreIn, Alter, CallBody, ReturnTop, KeepAll, GoBack, ForgetKept}
+use Rattle.setl_code.specs.Code.{Code, Instr, Body, Alteration, Bracket, StoreIn, Alter, CallBody, ReturnTop, PrintTop, KeepAll, GoBack, ForgetKept}
 use Rattle.setl_code.specs.CodeCore.{CodeCore, held, popped}
 use Rattle.setl_code.specs.Machine.{selected_by}
 use Rattle.setl_code.specs.Plain.{Variables, plain_code, plain_instr}
@@ -31,7 +33,8 @@ use Rattle.setl_machine_variables.specs.Altered.{stores_new}
 use Rattle.setl_machine_variables.specs.Gaining.{after_store, stores_at, GainsStore, GainsIf}
 use Rattle.setl_machine.specs.Families.{family_of}
 use Rattle.setl_machine.specs.Gaining.{each_with, bases_after, Gains, StayBases, GainsOrLeaves}
-use Rattle.setl_machine.specs.Working.{went_on}
+use Rattle.setl_machine.specs.Outcome.{Seen}
+use Rattle.setl_machine.specs.Working.{went_on, Begins, TakesArguments, TakesLine, WritesLine}
 use Rattle.setl_machine_control.specs.Working.{Works, Does}
 use Rattle.setl_machine.specs.declared.families.Family.TheVariants as family
 use Rattle.setl_machine.proofs.Declared.{not_declared}
@@ -114,10 +117,6 @@ store_told_gains modes line (Global name) k bs none = stored_each modes line (Gl
 store_told_gains modes line (Own body name) k bs none = stored_each modes line (Own body name) (value_held (held (Own body name) k)) bs
 store_told_gains modes line (Bound former name) k bs none = sym (ap (λ m. gained_by m (value_held (held (Bound former name) k)) bs) (none former name))
 
-pub bases_after_more : (modes : Modes) (bs : List Base) (es ds : List Event) → bases_after modes bs (es ++ ds) ≡ bases_after modes (bases_after modes bs es) ds
-bases_after_more modes bs [] ds = refl
-bases_after_more modes bs (e ∷ es) ds = bases_after_more modes (each_with modes 0 bs e) es ds
-
 -- ---- instructions
 
 -- one that tells nothing leaves the bases
@@ -127,7 +126,7 @@ gains_same modes c line i k d bs cs Done told same = same
 gains_same modes c line i k d bs cs (Stopped why at) told same = same
 gains_same modes c line i k d bs cs Spent told same = same
 gains_same modes c line i k d bs cs ReadFault told same = same
-gains_same modes c line i k d bs cs WriteFault told same = same
+gains_same modes c line i k d bs cs WriteFault told same = tt
 gains_same modes c line i k d bs cs NoMemory told same = tt
 gains_same modes c line i k d bs cs Stuck told same = same
 
@@ -138,7 +137,7 @@ gains_by modes c line i k d bs to cs Done told g = g
 gains_by modes c line i k d bs to cs (Stopped why at) told g = g
 gains_by modes c line i k d bs to cs Spent told g = g
 gains_by modes c line i k d bs to cs ReadFault told g = g
-gains_by modes c line i k d bs to cs WriteFault told g = g
+gains_by modes c line i k d bs to cs WriteFault told g = tt
 gains_by modes c line i k d bs to cs NoMemory told g = tt
 gains_by modes c line i k d bs to cs Stuck told g = g
 
@@ -177,6 +176,22 @@ alter_gains modes main old new from to line a x bs rest rest' e g =
     ∙ ap (λ cs. cond stored cs old.bases) (ap (bases_after modes old.bases) (told_in_world line x _ new.core) ∙ store_told_gains modes line x new.core old.bases (former_undeclared modes main)) in
     gains_by modes (plain_code old.code) line (Alter a x bs) k d old.bases (cond stored (after_store modes x old new) old.bases) new.bases e told g
 
+-- whether it stored counts only where it goes on
+stores_so : (stored at : Bool) (modes : Modes) (x : Variable) (old new : Standing) (e : End) → (e ≡ Paused → stored ≡ at) → GainsIf stored modes x old new e → GainsIf at modes x old new e
+stores_so stored at modes x old new Paused same g = subst (λ b. GainsIf b modes x old new Paused) (same refl) g
+stores_so stored at modes x old new Done same g = g
+stores_so stored at modes x old new (Stopped why line) same g = g
+stores_so stored at modes x old new Spent same g = g
+stores_so stored at modes x old new ReadFault same g = g
+stores_so stored at modes x old new WriteFault same g = g
+stores_so stored at modes x old new NoMemory same g = g
+stores_so stored at modes x old new Stuck same g = g
+
+pub altered_gains : (modes : Modes) → AreOfMain modes → (old new : Standing) (from to : ControlState) (line : ℕ) (a : Alteration) (x : Variable) (bs : List Bracket) (stored : Bool) (rest rest' : List ℕ) (e : End) → (e ≡ Paused → stored ≡ stores_at a x bs old.core from.turns) → GainsIf stored modes x old new e →
+    Gains modes (plain_code old.code) line (Alter a x bs) (stood_for old.core from rest) (stood_for new.core to rest') old.bases new.bases e
+altered_gains modes main old new from to line a x bs stored rest rest' e same g =
+    alter_gains modes main old new from to line a x bs rest rest' e (stores_so stored (stores_at a x bs old.core from.turns) modes x old new e same g)
+
 -- the parameters of a body are not declared
 bindings_same : (modes : Modes) → AreOfMain modes → (line n : ℕ) (ps : List Parameter) (vs : List (Option Datum)) (bs : List Base) → bases_after modes bs (stores_told line (bindings (suc n) ps vs)) ≡ bs
 bindings_same modes main line n [] vs bs = refl
@@ -204,6 +219,19 @@ at_main c (suc n) bare = go (slice_get c.bodies (suc n))
 pub call_gains : (modes : Modes) → AreOfMain modes → (c : Code) → IsBare c → (n line : ℕ) (k d : CodeCore) (bs cs : List Base) (e : End) → cs ≡ bs → Gains modes c line (CallBody n) k d bs cs e
 call_gains modes main c bare n line k d bs cs e same = gains_same modes c line (CallBody n) k d bs cs e (call_told_same modes main n line (slice_get c.bodies n) k bs (at_main c n bare)) same
 
+pub begun_gains : (modes : Modes) → AreOfMain modes → (old mid new : Standing) → IsBare (plain_code old.code) → (from to : ControlState) (n line : ℕ) (vs : List (Option Datum)) (k d : CodeCore) (e : End) → TakesArguments n old (Some vs) mid → Begins n vs mid from new to e → Gains modes (plain_code old.code) line (CallBody n) k d old.bases new.bases e
+begun_gains modes main old mid new bare from to n line vs k d e t b = call_gains modes main (plain_code old.code) bare n line k d old.bases new.bases e (go e b ∙ ap (λ s. s.bases) t.0)
+  where
+    go : (e : End) → Begins n vs mid from new to e → new.bases ≡ mid.bases
+    go Paused b = ap (λ s. s.bases) b.1
+    go Spent b = ap (λ s. s.bases) b.1
+    go Done b = absurd b
+    go (Stopped why at) b = absurd b
+    go ReadFault b = absurd b
+    go WriteFault b = absurd b
+    go NoMemory b = absurd b
+    go Stuck b = absurd b
+
 pub return_same : (modes : Modes) (b : Option Body) (bs : List Base) → bases_after modes bs (return_told b) ≡ bs
 return_same modes None bs = refl
 return_same modes (Some b) bs = returned_same modes 0 bs b.name
@@ -221,6 +249,33 @@ back_gains modes c line k d bs cs e g = gains_by modes c line GoBack k d bs (cut
 
 pub forget_gains : (modes : Modes) (c : Code) (line : ℕ) (k d : CodeCore) (bs cs : List Base) (e : End) → BasesAre (without_kept bs) bs cs e → Gains modes c line ForgetKept k d bs cs e
 forget_gains modes c line k d bs cs e g = gains_by modes c line ForgetKept k d bs (without_kept bs) cs e (forgot_each modes 0 bs) g
+
+-- ---- `print`
+
+print_gains : (modes : Modes) (c : Code) (line n : ℕ) (k d : CodeCore) (bs cs : List Base) (e : End) → cs ≡ bs → Gains modes c line (PrintTop n) k d bs cs e
+print_gains modes c line n k d bs cs e same = gains_same modes c line (PrintTop n) k d bs cs e (printed_same modes 0 bs (print_line (popped_values (popped n [] k.now.operands)))) same
+
+-- a line was written, or wasn't
+pub written_gains : (modes : Modes) (c : Code) (line n : ℕ) (k d : CodeCore) (old mid new : Standing) (bytes : Vec ℕ) (from to : Seen) (e : End) → TakesLine n old (Ok bytes) mid → WritesLine bytes.items mid from new to e → Gains modes c line (PrintTop n) k d old.bases new.bases e
+written_gains modes c line n k d old mid new bytes from to Paused t h = print_gains modes c line n k d old.bases new.bases Paused (ap (λ s. s.bases) h.0 ∙ ap (λ s. s.bases) t.0)
+written_gains modes c line n k d old mid new bytes from to WriteFault t h = tt
+written_gains modes c line n k d old mid new bytes from to NoMemory t h = tt
+written_gains modes c line n k d old mid new bytes from to Done t h = absurd h
+written_gains modes c line n k d old mid new bytes from to (Stopped why at) t h = absurd h
+written_gains modes c line n k d old mid new bytes from to Spent t h = absurd h
+written_gains modes c line n k d old mid new bytes from to ReadFault t h = absurd h
+written_gains modes c line n k d old mid new bytes from to Stuck t h = absurd h
+
+-- no line was made
+pub unwritten_gains : (modes : Modes) (c : Code) (line n : ℕ) (k d : CodeCore) (old mid : Standing) (e : End) → TakesLine n old (Err e) mid → Gains modes c line (PrintTop n) k d old.bases mid.bases e
+unwritten_gains modes c line n k d old mid Stuck t = print_gains modes c line n k d old.bases mid.bases Stuck (ap (λ s. s.bases) t.0)
+unwritten_gains modes c line n k d old mid NoMemory t = tt
+unwritten_gains modes c line n k d old mid Done t = absurd t
+unwritten_gains modes c line n k d old mid (Stopped why at) t = absurd t
+unwritten_gains modes c line n k d old mid Spent t = absurd t
+unwritten_gains modes c line n k d old mid Paused t = absurd t
+unwritten_gains modes c line n k d old mid ReadFault t = absurd t
+unwritten_gains modes c line n k d old mid WriteFault t = absurd t
 
 -- ---- the other families tell nothing
 
@@ -294,7 +349,7 @@ stay_gains modes c line i k d bs cs (Err Done) told h = h
 stay_gains modes c line i k d bs cs (Err (Stopped why at)) told h = h
 stay_gains modes c line i k d bs cs (Err Spent) told h = h
 stay_gains modes c line i k d bs cs (Err ReadFault) told h = h
-stay_gains modes c line i k d bs cs (Err WriteFault) told h = h
+stay_gains modes c line i k d bs cs (Err WriteFault) told h = tt
 stay_gains modes c line i k d bs cs (Err NoMemory) told h = tt
 stay_gains modes c line i k d bs cs (Err Stuck) told h = h
 

@@ -17,12 +17,14 @@ use Rattle.setl_machine_control.specs.Control.{stood_for, IsRest}
 use Rattle.setl_machine_control.specs.Declaring.{Modes, tested, AreOfMain, IsBare}
 use Rattle.setl_machine.specs.Hearing.{events_told, Hears, Tells}
 use Rattle.setl_machine_control.specs.Answers.{start, Answers}
+use Rattle.setl_machine.specs.Gaining.{RunGains}
 use Rattle.setl_machine.specs.Outcome.{Seen, Ran, ReadsOnly}
 use Rattle.setl_machine_control.specs.declared.end.End.{End}
 use Rattle.setl_machine_control.specs.declared.end.End.TheVariants.{Done, Stopped, Spent, Paused, ReadFault, WriteFault, NoMemory, Stuck}
 use Rattle.setl_machine.proofs.Declared.{AllTaken, TakesAll, parameters_taken}
 use Rattle.setl_machine.proofs.RanLaws.{Came, came, ran_join, reads_join}
 use Rattle.setl_machine.proofs.Rounds.{Moment, Runs, runs_give_up}
+use Rattle.setl_machine.proofs.Joining.{gains_join, told_behind}
 use Rattle.setl_machine.proofs.RunLaws.{all_behind, run_joined, run_one}
 use Rattle.setl_machine.proofs.Stays.{ran_none}
 
@@ -32,6 +34,7 @@ Is modes c n old new h h' e rest rest' =
     Ran modes c n (stood_for old.core old.control rest) old.outside new.outside (stood_for new.core new.control rest') e
     × ReadsOnly modes c n (stood_for old.core old.control rest) old.outside.held new.outside.held old.left new.left
     × Hears modes c n (stood_for old.core old.control rest) h h' e
+    × RunGains modes c n (stood_for old.core old.control rest) old.bases new.bases e
 
 -- the same whatever is left to come then
 abbrev pub Heard : Modes → Code → ℕ → Moment → Moment → Watched → Watched → End → Type 0
@@ -45,6 +48,7 @@ SomeHeard modes c old new h h' e = (rest' : List ℕ) → IsRest (ahead new.cont
     × (n : ℕ) × Ran modes c n (stood_for old.core old.control rest) old.outside new.outside (stood_for new.core new.control rest') e
     × ReadsOnly modes c n (stood_for old.core old.control rest) old.outside.held new.outside.held old.left new.left
     × Hears modes c n (stood_for old.core old.control rest) h h' e
+    × RunGains modes c n (stood_for old.core old.control rest) old.bases new.bases e
 
 -- the same without watchers
 abbrev pub SomeRan : Modes → Code → Moment → Moment → End → Type 0
@@ -52,12 +56,9 @@ SomeRan modes c old new e = (rest' : List ℕ) → IsRest (ahead new.control.rea
     (rest : List ℕ) × IsRest (ahead old.control.reader.ended old.left) rest
     × (n : ℕ) × Ran modes c n (stood_for old.core old.control rest) old.outside new.outside (stood_for new.core new.control rest') e
     × ReadsOnly modes c n (stood_for old.core old.control rest) old.outside.held new.outside.held old.left new.left
+    × RunGains modes c n (stood_for old.core old.control rest) old.bases new.bases e
 
 -- ---- calls in a row
-
-pub told_behind : (s : State CodeCore) (x : Next CodeCore) → events_told (all_behind s x) ≡ s.events ++ events_told x
-told_behind s (Goes t) = refl
-told_behind s (Ends e t) = refl
 
 hears_join : ToldInParts → (modes : Modes) (c : Code) (n j : ℕ) (from mid : CodeCore) (old now : Seen) (h h1 h2 : Watched) (e : End) → Ran modes c n from old now mid Paused → Hears modes c n from h h1 Paused → Hears modes c j mid h1 h2 e → Hears modes c (n + j) from h h2 e
 hears_join parts modes c n j from mid old now h h1 h2 e p a b = go e b
@@ -97,6 +98,7 @@ is_join parts modes c n j old mid new h h1 h2 e r r1 r2 a b =
       ran_join modes c n j from there to old.outside mid.outside new.outside e a.0 b.0,
       reads_join modes c n j from there to old.outside mid.outside new.outside e old.left mid.left new.left a.0 b.0 a.1 b.1,
       hears_join parts modes c n j from there old.outside mid.outside h h1 h2 e a.0 a.2 b.2,
+      gains_join modes c n j from there old.outside mid.outside old.bases mid.bases new.bases e a.0 a.3 b.3,
     )
 
 -- one more, of the same code
@@ -132,22 +134,22 @@ heard_then parts modes c d n old mid new h h1 e same none p q = λ rest' i.
     let b = subst (λ x. SomeRan modes x mid new e) same q rest' i in
     let a = p b.0 b.1 in
     let m = b.2 in
-    let both = is_join parts modes c n m old mid new h h1 h1 e a.0 b.0 rest' a.2 (b.3, b.4, hears_none modes c m (stood_for mid.core mid.control b.0) h1 e none) in
-    (a.0, a.1, n + m, both.0, both.1, both.2)
+    let both = is_join parts modes c n m old mid new h h1 h1 e a.0 b.0 rest' a.2 (b.3, b.4, hears_none modes c m (stood_for mid.core mid.control b.0) h1 e none, b.5) in
+    (a.0, a.1, n + m, both.0, both.1, both.2, both.3)
 
 pub some_heard : (modes : Modes) (c : Code) (n : ℕ) (old new : Moment) (h h' : Watched) (e : End) → Heard modes c n old new h h' e → SomeHeard modes c old new h h' e
-some_heard modes c n old new h h' e p = λ rest' i. let a = p rest' i in (a.0, a.1, n, (a.2).0, (a.2).1, (a.2).2)
+some_heard modes c n old new h h' e p = λ rest' i. let a = p rest' i in (a.0, a.1, n, (a.2).0, (a.2).1, (a.2).2, (a.2).3)
 
 -- no step
 pub heard_none : (modes : Modes) (c : Code) (now : Moment) (h : Watched) → Heard modes c 0 now now h h Paused
-heard_none modes c now h = λ rest' i. (rest', i, (ran_none modes c (stood_for now.core now.control rest') now.outside, inl refl, refl))
+heard_none modes c now h = λ rest' i. (rest', i, (ran_none modes c (stood_for now.core now.control rest') now.outside, inl refl, refl, refl))
 
 -- memory was refused where another call came to
 pub heard_gives_up : (modes : Modes) (c : Code) (n : ℕ) (old new : Moment) (h h1 h2 : Watched) → Heard modes c n old new h h1 Paused → SomeHeard modes c old new h h2 NoMemory
 heard_gives_up modes c n old new h h1 h2 p = λ rest' i.
-    let q : Runs modes c n old new Paused = λ r j. let a = p r j in (a.0, a.1, (a.2).0, (a.2).1) in
+    let q : Runs modes c n old new Paused = λ r j. let a = p r j in (a.0, a.1, (a.2).0, (a.2).1, (a.2).3) in
     let b = runs_give_up modes c n old new q rest' i in
-    (b.0, b.1, n + 1, b.2, b.3, tt)
+    (b.0, b.1, n + 1, b.2, b.3, tt, tt)
 
 -- ---- one step
 
@@ -197,7 +199,7 @@ heard_paused are modes c old new es h h' p tells told = λ rest' i.
     let one = run_one (machine c) (tested modes) (start k) in
     let at : Answers modes (step (machine c) (tested modes) (start k)) d Paused = subst (λ x. Answers modes x d Paused) one (a.2).0 in
     let events = goes_telling are modes c k d es (λ line i f. tells line i f a.0 rest') at in
-    (a.0, a.1, (a.2, a.3, told ∙ ap (λ ns. told_each ns h) (sym events ∙ ap (λ x. map noticed (events_told x)) (sym one))))
+    (a.0, a.1, (a.2, a.3, told ∙ ap (λ ns. told_each ns h) (sym events ∙ ap (λ x. map noticed (events_told x)) (sym one)), a.4))
 
 -- Where it ends the run, they were told nothing.
 hears_ended : EndsTellNothing → (modes : Modes) (c : Code) (k to : CodeCore) (old new : Seen) (h : Watched) (e : End) → AreOfMain modes → IsBare c → (e ≡ Paused → ⊥) → Ran modes c 1 k old new to e → Hears modes c 1 k h h e
@@ -221,7 +223,7 @@ hears_ended nothing modes c k to old new h e main bare ne r = go e ne r
 pub heard_ended : EndsTellNothing → (modes : Modes) (c : Code) (old new : Moment) (h : Watched) (e : End) → AreOfMain modes → IsBare c → (e ≡ Paused → ⊥) → Runs modes c 1 old new e → Heard modes c 1 old new h h e
 heard_ended nothing modes c old new h e main bare ne p = λ rest' i.
     let a = p rest' i in
-    (a.0, a.1, (a.2, a.3, hears_ended nothing modes c (stood_for old.core old.control a.0) (stood_for new.core new.control rest') old.outside new.outside h e main bare ne a.2))
+    (a.0, a.1, (a.2, a.3, hears_ended nothing modes c (stood_for old.core old.control a.0) (stood_for new.core new.control rest') old.outside new.outside h e main bare ne a.2, a.4))
 
 pub no_items : {X Y : Type 0} (f : X → Y) (xs : List X) → length xs ≡ 0 → map f xs ≡ []
 no_items f [] h = refl

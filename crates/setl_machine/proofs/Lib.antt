@@ -8,6 +8,7 @@ pub mod Declared
 pub mod Entering
 pub mod Components
 pub mod Stepping
+pub mod Joining
 pub mod Rounds
 pub mod Ending
 pub mod SlotsKept

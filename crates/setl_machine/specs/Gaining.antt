@@ -2,12 +2,14 @@
 use Rattle.std.specs.Prelude.{◌≡◌, ℕ, suc, Bool, true, false, List, [], ◌∷◌, Some, None, Result, Ok, Err}
 use Rattle.setl_model_runs.specs.Events.{Event}
 use Rattle.setl_model_runs.specs.Run.{Next}
+use Rattle.setl_model_runs.specs.Run as runs
 use Rattle.setl_model.specs.Entered.{Base, with_event}
 use Rattle.setl_code.specs.Code.{Code, Instr}
 use Rattle.setl_code.specs.CodeCore.{CodeCore}
-use Rattle.setl_code.specs.Machine.{fetch}
+use Rattle.setl_code.specs.Machine.{fetch, machine}
 use Rattle.setl_code_events.specs.Told.{events_of}
-use Rattle.setl_machine_control.specs.Declaring.{Modes}
+use Rattle.setl_machine_control.specs.Answers.{start}
+use Rattle.setl_machine_control.specs.Declaring.{Modes, tested}
 use Rattle.setl_machine_control.specs.declared.end.End.{End}
 use Rattle.setl_machine_control.specs.declared.end.End.TheVariants as end
 use Rattle.setl_machine.specs.Hearing.{events_told}
@@ -22,9 +24,10 @@ bases_after modes bs [] = bs
 bases_after modes bs (e ∷ es) = bases_after modes (each_with modes 0 bs e) es
 
 -- Where the code goes on the bases are as the events of an instruction leave them, by the cores before and after it; at an end they
--- are as before. After want of memory nothing is known of them.
+-- are as before. After a failed `print` and want of memory nothing is known of them.
 abbrev pub Gains : Modes → Code → ℕ → Instr → (k d : CodeCore) → (bs cs : List Base) → End → Type 0
 Gains modes c line i k d bs cs end.Paused = cs ≡ bases_after modes bs (events_of c line i k d)
+Gains modes c line i k d bs cs end.WriteFault = Unit {0}
 Gains modes c line i k d bs cs end.NoMemory = Unit {0}
 Gains modes c line i k d bs cs e = cs ≡ bs
 
@@ -45,6 +48,15 @@ NextGains modes x bs cs end.ReadFault = Unit {0}
 NextGains modes x bs cs end.WriteFault = Unit {0}
 NextGains modes x bs cs end.NoMemory = Unit {0}
 NextGains modes x bs cs e = cs ≡ bases_after modes bs (events_told x)
+
+-- so did at most so many steps of a code from this core
+abbrev pub RunGains : Modes → Code → ℕ → CodeCore → (bs cs : List Base) → End → Type 0
+RunGains modes c n from bs cs e = NextGains modes (runs.run (machine c) (tested modes) n (start from)) bs cs e
+
+-- how a step ended, as an answer
+abbrev pub as_answer : End → Result Bool End
+as_answer end.Paused = Ok true
+as_answer e = Err e
 
 -- What the instruction in hand made of them, by the cores before and after it; where none is, they are as before.
 abbrev pub HandGains : Modes → Code → (k d : CodeCore) → (bs cs : List Base) → Result Bool End → Type 0

@@ -1,17 +1,18 @@
 //! Calls and returns.
 
-ghost use Rattle.std.specs.Prelude.{◌≡◌, ℕ, ◌<◌, length, map, slice_get, Some, None, IfSome, IfNone, IfOk};
+ghost use Rattle.std.specs.Prelude.{◌≡◌, ℕ, ◌<◌, List, length, map, slice_get, Some, None, IfSome, IfNone, IfOk};
 ghost use Rattle.std.specs.Option.{option_map};
 ghost use Rattle.setl_code.specs.Code.{CallBody, ReturnTop};
 ghost use Rattle.setl_code.specs.CodeCore.{CodeCore};
 ghost use Rattle.setl_code.specs.MayRun.{InstrFits};
 ghost use Rattle.setl_code.specs.Plain.{plain_code, plain_instr};
 ghost use Rattle.setl_store.specs.Standing.{variables, CanGoOn};
+ghost use Rattle.setl_machine_control.specs.Control.{stood_for};
 ghost use Rattle.setl_machine_control.specs.Declaring.{Modes, modes_of, Serves, AreOfMain, IsBare};
 ghost use Rattle.setl_value.specs.code.DatumOf.{part};
 ghost use Rattle.setl_machine_control.specs.Working.{Works, DoesBy};
 ghost use Rattle.setl_machine.specs.Working.{HasParameters, TakesArguments, Begins};
-ghost use Rattle.setl_machine.specs.Hearing.{DoesTelling};
+ghost use Rattle.setl_machine.specs.Hearing.{ended, DoesTelling};
 ghost use Rattle.setl_machine.specs.Families.{family_of};
 ghost use Rattle.setl_machine.specs.Gaining.{Gains};
 ghost use Rattle.setl_machine.specs.declared.families.Family.{Family};
@@ -61,6 +62,7 @@ pub(crate) fn calls_telling(
     requires fits { InstrFits (length store.old.core.globals) (length store.old.core.now.own) what.now }
     requires serves { Serves declarations.now store.old }
     ensures did { DoesTelling (modes_of declarations.now) store.old control.old line (plain_instr (variables store.old.core) what.now) store.new control.new result }
+    ensures gained { (rest rest' : List ℕ) → Gains (modes_of declarations.now) (plain_code store.old.code) line (plain_instr (variables store.old.core) what.now) (stood_for store.old.core control.old rest) (stood_for store.new.core control.new rest') store.old.bases store.new.bases (ended result) }
     ensures reader { control.new.reader ≡ control.old.reader }
 {
     match what {
@@ -170,6 +172,7 @@ fn call_telling(
     requires few { CanGoOn store.old }
     requires serves { Serves declarations.now store.old }
     ensures did { DoesTelling (modes_of declarations.now) store.old control.old line (CallBody body) store.new control.new result }
+    ensures gained { (k d : CodeCore) → Gains (modes_of declarations.now) (plain_code store.old.code) line (CallBody body) k d store.old.bases store.new.bases (ended result) }
     ensures reader { control.new.reader ≡ control.old.reader }
 {
     let Some(values) = arguments(body, store)? else {

@@ -8,6 +8,7 @@ ghost use Rattle.setl_text.specs.code.Reads.{ahead, StaysHonest, TakesOff};
 ghost use Rattle.setl_machine_control.specs.Control.{stood_for, IsRest};
 ghost use Rattle.setl_machine_control.specs.Declaring.{modes_of, tested, Serves};
 ghost use Rattle.setl_machine_control.specs.Answers.{start};
+ghost use Rattle.setl_machine.specs.Gaining.{as_answer, HandGains, RunGains};
 ghost use Rattle.setl_machine.specs.Outcome.{seen, Steps, AtPrint, AtRead, Ran, ReadsOnly};
 ghost use Rattle.setl_machine_control.specs.declared.end.End.{End};
 
@@ -17,6 +18,7 @@ use crate::outside::{print, read};
 use crate::quiet::run_quietly;
 use setl_code::Instr;
 use setl_code_declared::declared_variables_fit;
+use setl_code_events::{ends_tell_nothing, events_are};
 use setl_io::{Sink, Source};
 use setl_machine_control::{Control, End};
 use setl_machine_variables::Declarations;
@@ -46,13 +48,16 @@ pub fn run<I: Source, O: Sink>(
     ensures ran { (rest' : List ℕ) → IsRest (ahead control.new.reader.ended (I.left input.new)) rest' →
         (rest : List ℕ) × IsRest (ahead control.old.reader.ended (I.left input.old)) rest
         × Ran (modes_of declarations.now) (plain_code store.old.code) steps (stood_for store.old.core control.old rest) (seen (O.held out.old) (O.faults out.old) (I.faults input.old)) (seen (O.held out.new) (O.faults out.new) (I.faults input.new)) (stood_for store.new.core control.new rest') result
-        × ReadsOnly (modes_of declarations.now) (plain_code store.old.code) steps (stood_for store.old.core control.old rest) (O.held out.old) (O.held out.new) (I.left input.old) (I.left input.new) }
+        × ReadsOnly (modes_of declarations.now) (plain_code store.old.code) steps (stood_for store.old.core control.old rest) (O.held out.old) (O.held out.new) (I.left input.old) (I.left input.new)
+        × RunGains (modes_of declarations.now) (plain_code store.old.code) steps (stood_for store.old.core control.old rest) store.old.bases store.new.bases result }
     ensures code { result ≡ End.Paused → store.new.code ≡ store.old.code }
     ensures goes_on { result ≡ End.Paused → control.new.reader.fault ≡ None }
     ensures took { TakesOff (I.left input.old) (I.left input.new) }
     ensures honest { StaysHonest control.old.reader.ended (I.left input.old) control.new.reader.ended (I.left input.new) }
 {
     declared_variables_fit();
+    events_are();
+    ends_tell_nothing();
     let mut done = 0;
     while done < steps {
         let quiet = run_quietly(declarations, store, control, steps - done - 1);
@@ -85,7 +90,8 @@ pub fn run_whole<I: Source, O: Sink>(
     ensures ran { (rest' : List ℕ) → IsRest (ahead control.new.reader.ended (I.left input.new)) rest' →
         (rest : List ℕ) × IsRest (ahead control.old.reader.ended (I.left input.old)) rest
         × (n : ℕ) × Ran (modes_of declarations.now) (plain_code store.old.code) n (stood_for store.old.core control.old rest) (seen (O.held out.old) (O.faults out.old) (I.faults input.old)) (seen (O.held out.new) (O.faults out.new) (I.faults input.new)) (stood_for store.new.core control.new rest') result
-        × ReadsOnly (modes_of declarations.now) (plain_code store.old.code) n (stood_for store.old.core control.old rest) (O.held out.old) (O.held out.new) (I.left input.old) (I.left input.new) }
+        × ReadsOnly (modes_of declarations.now) (plain_code store.old.code) n (stood_for store.old.core control.old rest) (O.held out.old) (O.held out.new) (I.left input.old) (I.left input.new)
+        × RunGains (modes_of declarations.now) (plain_code store.old.code) n (stood_for store.old.core control.old rest) store.old.bases store.new.bases result }
     ensures whole { ¬ (result ≡ End.Paused) }
     ensures took { TakesOff (I.left input.old) (I.left input.new) }
     ensures honest { StaysHonest control.old.reader.ended (I.left input.old) control.new.reader.ended (I.left input.new) }
@@ -113,6 +119,7 @@ fn step<I: Source, O: Sink>(
     ensures did { (rest' : List ℕ) → IsRest (ahead control.new.reader.ended (I.left input.new)) rest' →
         (rest : List ℕ) × IsRest (ahead control.old.reader.ended (I.left input.old)) rest
         × Steps (modes_of declarations.now) (step (machine (plain_code store.old.code)) (tested (modes_of declarations.now)) (start (stood_for store.old.core control.old rest))) (seen (O.held out.old) (O.faults out.old) (I.faults input.old)) (seen (O.held out.new) (O.faults out.new) (I.faults input.new)) (stood_for store.new.core control.new rest') result }
+    ensures gained { (rest rest' : List ℕ) → HandGains (modes_of declarations.now) (plain_code store.old.code) (stood_for store.old.core control.old rest) (stood_for store.new.core control.new rest') store.old.bases store.new.bases (as_answer result) }
     ensures prints { result ≡ End.WriteFault → AtPrint (plain_code store.old.code) store.old.core }
     ensures reads { result ≡ End.ReadFault → AtRead (plain_code store.old.code) store.old.core }
     ensures reads_only { (I.left input.new ≡ I.left input.old) ⊎ AtRead (plain_code store.old.code) store.old.core }

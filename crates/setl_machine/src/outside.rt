@@ -2,7 +2,7 @@
 
 ghost use Rattle.std.specs.Prelude.{◌≡◌, ◌∷◌, [], List, ℕ, suc, None, map, IfOk, OnOk};
 ghost use Rattle.setl_value.specs.code.DatumOf.{part};
-ghost use Rattle.setl_code.specs.CodeCore.{Result as Holds};
+ghost use Rattle.setl_code.specs.CodeCore.{CodeCore, Result as Holds};
 ghost use Rattle.setl_store.specs.Standing.{at_place, over, CanGoOn};
 ghost use Rattle.setl_code.specs.Code.{PrintTop, ReadOne};
 ghost use Rattle.setl_code.specs.Plain.{plain_code};
@@ -13,6 +13,7 @@ ghost use Rattle.setl_machine_control.specs.Declaring.{Modes};
 ghost use Rattle.setl_machine_control.specs.Answers.{next_of};
 ghost use Rattle.setl_watch.specs.Notices.{Printed as PrintNotice, without_last};
 ghost use Rattle.setl_watch.specs.code.NoticeOf.{notice_of};
+ghost use Rattle.setl_machine.specs.Gaining.{Gains};
 ghost use Rattle.setl_machine.specs.Hearing.{ended, TellsOf};
 ghost use Rattle.setl_machine.specs.Outcome.{seen, Steps};
 ghost use Rattle.setl_machine_control.specs.Reading.{TakesIn};
@@ -37,6 +38,7 @@ pub(crate) fn print<O: Sink>(
 ) -> End
     requires { CanGoOn store.old }
     ensures did { (modes : Modes) (line : ℕ) (w : World) (n : ℕ) → Steps modes (next_of modes (plain_code store.old.code) line (PrintTop count) (in_world w store.old.core)) (seen (O.held out.old) (O.faults out.old) n) (seen (O.held out.new) (O.faults out.new) n) (in_world w store.new.core) result }
+    ensures gained { (modes : Modes) (line : ℕ) (k d : CodeCore) → Gains modes (plain_code store.old.code) line (PrintTop count) k d store.old.bases store.new.bases result }
     ensures code { result ≡ End.Paused → store.new.code ≡ store.old.code }
     ensures no_read { result ≡ End.ReadFault → ⊥ }
 {
@@ -85,6 +87,7 @@ pub(crate) fn read<I: Source>(
     ensures did { (modes : Modes) (held : _) (n : ℕ) (rest' : List ℕ) → IsRest (ahead control.new.reader.ended (I.left input.new)) rest' →
         (rest : List ℕ) × IsRest (ahead control.old.reader.ended (I.left input.old)) rest
         × Steps modes (next_of modes (plain_code store.old.code) line ReadOne (stood_for store.old.core control.old rest)) (seen held n (I.faults input.old)) (seen held n (I.faults input.new)) (stood_for store.new.core control.new rest') result }
+    ensures gained { (modes : Modes) (line : ℕ) (k d : CodeCore) → Gains modes (plain_code store.old.code) line ReadOne k d store.old.bases store.new.bases result }
     ensures code { result ≡ End.Paused → store.new.code ≡ store.old.code }
     ensures no_write { result ≡ End.WriteFault → ⊥ }
     ensures goes_on { result ≡ End.Paused → control.new.reader.fault ≡ None }
@@ -133,6 +136,7 @@ pub(crate) fn print_telling<O: Sink>(
     requires { CanGoOn store.old }
     ensures did { (modes : Modes) (line : ℕ) (w : World) (n : ℕ) → Steps modes (next_of modes (plain_code store.old.code) line (PrintTop count) (in_world w store.old.core)) (seen (O.held out.old) (O.faults out.old) n) (seen (O.held out.new) (O.faults out.new) n) (in_world w store.new.core) (ended result) }
     ensures tells { (line : ℕ) → TellsOf store.old control.now line (PrintTop count) store.new control.now result }
+    ensures gained { (modes : Modes) (line : ℕ) (k d : CodeCore) → Gains modes (plain_code store.old.code) line (PrintTop count) k d store.old.bases store.new.bases (ended result) }
     ensures no_read { ended result ≡ End.ReadFault → ⊥ }
 {
     let line = take_line(count, store, control.alloc())?;

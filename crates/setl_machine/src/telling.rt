@@ -10,6 +10,7 @@ ghost use Rattle.setl_text.specs.code.Reads.{ahead, StaysHonest, TakesOff};
 ghost use Rattle.setl_store.specs.Standing.{variables, CanGoOn};
 ghost use Rattle.setl_machine_control.specs.Control.{stood_for, IsRest};
 ghost use Rattle.setl_machine_control.specs.Declaring.{modes_of, tested, Serves};
+ghost use Rattle.setl_machine.specs.Gaining.{as_answer, Gains, HandGains};
 ghost use Rattle.setl_machine.specs.Hearing.{ended, Tells, DoesTelling, TellsInHand};
 ghost use Rattle.setl_machine_control.specs.Answers.{start};
 ghost use Rattle.setl_machine.specs.Outcome.{seen, Steps, AtPrint, AtRead};
@@ -46,6 +47,7 @@ pub fn step_telling<I: Source, O: Sink>(
     ensures did { (rest' : List ℕ) → IsRest (ahead control.new.reader.ended (I.left input.new)) rest' →
         (rest : List ℕ) × IsRest (ahead control.old.reader.ended (I.left input.old)) rest
         × Steps (modes_of declarations.now) (step (machine (plain_code store.old.code)) (tested (modes_of declarations.now)) (start (stood_for store.old.core control.old rest))) (seen (O.held out.old) (O.faults out.old) (I.faults input.old)) (seen (O.held out.new) (O.faults out.new) (I.faults input.new)) (stood_for store.new.core control.new rest') (ended result) }
+    ensures gained { (rest rest' : List ℕ) → HandGains (modes_of declarations.now) (plain_code store.old.code) (stood_for store.old.core control.old rest) (stood_for store.new.core control.new rest') store.old.bases store.new.bases (as_answer (ended result)) }
     ensures tells { TellsInHand store.old control.old store.new control.new result }
     ensures prints { ended result ≡ End.WriteFault → AtPrint (plain_code store.old.code) store.old.core }
     ensures reads { ended result ≡ End.ReadFault → AtRead (plain_code store.old.code) store.old.core }
@@ -85,6 +87,7 @@ fn quiet_telling(
     requires fits { InstrFits (length store.old.core.globals) (length store.old.core.now.own) what.now }
     requires serves { Serves declarations.now store.old }
     ensures did { DoesTelling (modes_of declarations.now) store.old control.old line (plain_instr (variables store.old.core) what.now) store.new control.new result }
+    ensures gained { (rest rest' : List ℕ) → Gains (modes_of declarations.now) (plain_code store.old.code) line (plain_instr (variables store.old.core) what.now) (stood_for store.old.core control.old rest) (stood_for store.new.core control.new rest') store.old.bases store.new.bases (ended result) }
     ensures reader { control.new.reader ≡ control.old.reader }
 {
     match family_of(what) {
@@ -108,6 +111,7 @@ pub(crate) fn alone_telling(
     requires fits { InstrFits (length store.old.core.globals) (length store.old.core.now.own) what.now }
     requires serves { Serves declarations.now store.old }
     ensures did { DoesTelling (modes_of declarations.now) store.old control.old line (plain_instr (variables store.old.core) what.now) store.new control.new result }
+    ensures gained { (rest rest' : List ℕ) → Gains (modes_of declarations.now) (plain_code store.old.code) line (plain_instr (variables store.old.core) what.now) (stood_for store.old.core control.old rest) (stood_for store.new.core control.new rest') store.old.bases store.new.bases (ended result) }
     ensures reader { control.new.reader ≡ control.old.reader }
 {
     let body = store.body();

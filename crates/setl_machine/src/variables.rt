@@ -13,7 +13,7 @@ ghost use Rattle.setl_store.specs.Standing.{variables, variables_in, CanGoOn};
 ghost use Rattle.setl_machine_control.specs.Control.{stood_for, ControlState};
 ghost use Rattle.setl_machine_control.specs.Declaring.{modes_of, Serves};
 ghost use Rattle.setl_machine_control.specs.Working.{DoesBy};
-ghost use Rattle.setl_machine.specs.Hearing.{DoesTelling};
+ghost use Rattle.setl_machine.specs.Hearing.{ended, DoesTelling};
 ghost use Rattle.setl_machine.specs.Gaining.{Gains};
 ghost use Rattle.setl_machine.specs.Families.{family_of};
 ghost use Rattle.setl_machine.specs.declared.families.Family.{Family};
@@ -74,6 +74,7 @@ pub(crate) fn variable_telling(
     requires fits { InstrFits (length store.old.core.globals) (length store.old.core.now.own) what.now }
     requires serves { Serves declarations.now store.old }
     ensures did { DoesTelling (modes_of declarations.now) store.old control.old line (plain_instr (variables store.old.core) what.now) store.new control.new result }
+    ensures gained { (rest rest' : List ℕ) → Gains (modes_of declarations.now) (plain_code store.old.code) line (plain_instr (variables store.old.core) what.now) (stood_for store.old.core control.old rest) (stood_for store.new.core control.new rest') store.old.bases store.new.bases (ended result) }
     ensures reader { control.new.reader ≡ control.old.reader }
 {
     match what {
@@ -102,7 +103,8 @@ fn store_telling(
     requires few { CanGoOn store.old }
     requires there { HasSlot (length store.old.core.globals) (length store.old.core.now.own) slot }
     requires serves { Serves declarations.now store.old }
-    ensures { (from : ControlState) → DoesTelling (modes_of declarations.now) store.old from line (StoreIn (plain_slot (variables store.old.core) slot)) store.new from result }
+    ensures did { (from : ControlState) → DoesTelling (modes_of declarations.now) store.old from line (StoreIn (plain_slot (variables store.old.core) slot)) store.new from result }
+    ensures gained { (from : ControlState) (rest rest' : List ℕ) → Gains (modes_of declarations.now) (plain_code store.old.code) line (StoreIn (plain_slot (variables store.old.core) slot)) (stood_for store.old.core from rest) (stood_for store.new.core from rest') store.old.bases store.new.bases (ended result) }
 {
     // Its clause names the variables by the body's number, as `stored_events` wants them.
     let _body = store.body();
@@ -127,6 +129,7 @@ fn alter_telling(
     requires can { CanAlter what }
     requires serves { Serves declarations.now store.old }
     ensures did { DoesTelling (modes_of declarations.now) store.old control.old line (Alter (plain_alteration what) (plain_slot (variables store.old.core) slot) (map plain_bracket brackets.now)) store.new control.new result }
+    ensures gained { (rest rest' : List ℕ) → Gains (modes_of declarations.now) (plain_code store.old.code) line (Alter (plain_alteration what) (plain_slot (variables store.old.core) slot) (map plain_bracket brackets.now)) (stood_for store.old.core control.old rest) (stood_for store.new.core control.new rest') store.old.bases store.new.bases (ended result) }
     ensures reader { control.new.reader ≡ control.old.reader }
 {
     // Its clause names the variables by the body's number, as `stored_events` wants them.

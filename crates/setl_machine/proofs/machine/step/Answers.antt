@@ -9,6 +9,7 @@ use Rattle.setl_machine_control.specs.Control.{world_of, stood_for, IsRest}
 use Rattle.setl_machine_control.specs.Declaring.{modes_of}
 use Rattle.setl_machine_control.specs.Answers.{next_of}
 use Rattle.setl_machine.specs.Outcome.{seen}
+use Rattle.setl_machine.proofs.RunGains.{ended_gains}
 use Rattle.setl_machine.proofs.Stays.{takes_none}
 use Rattle.setl_machine.proofs.Stepping.{in_hand, by_step, quiet_steps, quiet_no_write, quiet_no_read, stays_honest}
 use Rattle.setl_machine.proofs.machine.step.Goals as goal
@@ -25,6 +26,28 @@ returns-in-Print-clause-did g c =
     λ rest h.
     let w = world_of c.args.control.now rest in
     (rest, h, by_step (modes_of c.args.declarations.now) m (stood_for s.core c.args.control.now rest) (stood_for c.print.new.store.core c.args.control.now rest) line (PrintTop c.in-Print.count) old new c.print.result here (c.print.ensures.did (modes_of c.args.declarations.now) line w faults))
+
+pub returns-in-Print-clause-gained : goal.returns-in-Print-clause-gained
+returns-in-Print-clause-gained g c = λ rest rest'.
+    let s = c.args.store.now in
+    let m = plain_code s.code in
+    let modes = modes_of c.args.declarations.now in
+    let line = c.in-Some.step.now.line in
+    let here : fetch m s.core.now.body s.core.now.at ≡ Some (line, PrintTop c.in-Print.count) = in_hand m s.core (variables s.core) c.in-Some.step.now (Print c.in-Print.count) c.in-Some.ensures.some c.in-Print.is in
+    let k = stood_for s.core c.args.control.now rest in
+    let d = stood_for c.print.new.store.core c.args.control.now rest' in
+    ended_gains modes m line (PrintTop c.in-Print.count) k d s.bases c.print.new.store.bases c.print.result here (c.print.ensures.gained modes line k d)
+
+pub returns-in-Read-clause-gained : goal.returns-in-Read-clause-gained
+returns-in-Read-clause-gained g c = λ rest rest'.
+    let s = c.args.store.now in
+    let m = plain_code s.code in
+    let modes = modes_of c.args.declarations.now in
+    let line = c.in-Some.step.now.line in
+    let here : fetch m s.core.now.body s.core.now.at ≡ Some (line, ReadOne) = in_hand m s.core (variables s.core) c.in-Some.step.now Read c.in-Some.ensures.some c.in-Read.is in
+    let k = stood_for s.core c.args.control.now rest in
+    let d = stood_for c.read.new.store.core c.read.new.control rest' in
+    ended_gains modes m line ReadOne k d s.bases c.read.new.store.bases c.read.result here (c.read.ensures.gained modes line k d)
 
 pub returns-in-Read-clause-did : goal.returns-in-Read-clause-did
 returns-in-Read-clause-did g c =
@@ -57,6 +80,7 @@ returns-in_default-family_of g c =
             subst (λ (r : ReaderState). IsRest (ahead r.ended left) rest) reader h,
             by_step (modes_of c.args.declarations.now) m k to line what now now c.quiet_step.result c.in-Some.ensures.some (quiet_steps (modes_of c.args.declarations.now) (next_of (modes_of c.args.declarations.now) m line what k) to now c.quiet_step.result (c.quiet_step.ensures.did rest)),
           );
+      gained = λ rest rest'. ended_gains (modes_of c.args.declarations.now) m line what (stood_for s.core c.args.control.now rest) (stood_for c.quiet_step.new.store.core c.quiet_step.new.control rest') s.bases c.quiet_step.new.store.bases c.quiet_step.result c.in-Some.ensures.some (c.quiet_step.ensures.gained rest rest');
       prints = λ e. absurd (quiet_no_write (modes_of c.args.declarations.now) (next_of (modes_of c.args.declarations.now) m line what (stood_for s.core c.args.control.now [])) (stood_for c.quiet_step.new.store.core c.quiet_step.new.control []) c.quiet_step.result (c.quiet_step.ensures.did []) e);
       reads = λ e. absurd (quiet_no_read (modes_of c.args.declarations.now) (next_of (modes_of c.args.declarations.now) m line what (stood_for s.core c.args.control.now [])) (stood_for c.quiet_step.new.store.core c.quiet_step.new.control []) c.quiet_step.result (c.quiet_step.ensures.did []) e);
       reads_only = inl refl;

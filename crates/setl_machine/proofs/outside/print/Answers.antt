@@ -1,6 +1,8 @@
 use Rattle.std.proofs.Common.{◌∙◌, Ok, ap, subst}
+use Rattle.setl_code.specs.Plain.{plain_code}
 use Rattle.setl_machine.specs.Outcome.{seen}
 use Rattle.setl_machine.specs.Working.{TakesLine, WritesLine}
+use Rattle.setl_machine.proofs.Gaining.{written_gains, unwritten_gains}
 use Rattle.setl_machine.proofs.Printing.{writes, reads_none, writes_code}
 use Rattle.setl_machine.proofs.outside.print.Goals as goal
 
@@ -27,3 +29,18 @@ returns-in-Ok-clause-no_read g c = λ e.
     let from = seen (g.O.Sink.held c.args.out.now) (g.O.Sink.faults c.args.out.now) 0 in
     let to = seen (g.O.Sink.held c.write_line.new.out) (g.O.Sink.faults c.write_line.new.out) 0 in
     reads_none c.deref.result.now c.take_line.new.store c.write_line.new.store from to c.write_line.result (c.write_line.ensures 0) e
+
+pub returns-in-Ok-clause-gained : goal.returns-in-Ok-clause-gained
+returns-in-Ok-clause-gained g c = λ modes line k d.
+    let old = c.args.store.now in
+    let mid = c.take_line.new.store in
+    let new = c.write_line.new.store in
+    let from = seen (g.O.Sink.held c.args.out.now) (g.O.Sink.faults c.args.out.now) 0 in
+    let to = seen (g.O.Sink.held c.write_line.new.out) (g.O.Sink.faults c.write_line.new.out) 0 in
+    let written : WritesLine c.in-Ok.line.items mid from new to c.write_line.result = subst (λ bs. WritesLine bs mid from new to c.write_line.result) c.deref.ensures.value (c.write_line.ensures 0) in
+    written_gains modes (plain_code old.code) line c.args.count k d old mid new c.in-Ok.line from to c.write_line.result c.in-Ok.ensures written
+
+pub returns-in-Err-clause-gained : goal.returns-in-Err-clause-gained
+returns-in-Err-clause-gained g c = λ modes line k d.
+    let old = c.args.store.now in
+    unwritten_gains modes (plain_code old.code) line c.args.count k d old c.take_line.new.store c.in-Err.end c.in-Err.ensures

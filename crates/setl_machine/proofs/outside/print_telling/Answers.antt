@@ -4,9 +4,11 @@ use Rattle.setl_code.specs.Code.{PrintTop}
 use Rattle.setl_code.specs.Plain.{plain_code}
 use Rattle.setl_machine_control.specs.Control.{in_world}
 use Rattle.setl_machine_control.specs.Answers.{next_of}
+use Rattle.setl_machine.specs.Gaining.{Gains}
 use Rattle.setl_machine.specs.Outcome.{seen, Steps}
 use Rattle.setl_machine.specs.Working.{TakesLine, WritesLine}
 use Rattle.setl_machine_control.specs.declared.end.End.{End}
+use Rattle.setl_machine.proofs.Gaining.{written_gains}
 use Rattle.setl_machine.proofs.Printing.{writes, reads_none}
 use Rattle.setl_machine.proofs.Told.{tells_print}
 use Rattle.setl_machine.proofs.outside.print_telling.Goals as goal
@@ -33,6 +35,17 @@ returns-in-Paused-clause-tells g c = λ line.
       tells_print old mid new control control line c.args.count c.in_ok-line.line c.in_ok-events.events.items taken (c.in_ok-events.ensures ∙ ap (λ bs. Printed (without_last bs) ∷ []) c.deref.ensures.value),
     )
 
+pub returns-in-Paused-clause-gained : goal.returns-in-Paused-clause-gained
+returns-in-Paused-clause-gained g c = λ modes line k d.
+    let old = c.args.store.now in
+    let mid = c.take_line.new.store in
+    let new = c.write_line.new.store in
+    let from = seen (g.O.Sink.held c.args.out.now) (g.O.Sink.faults c.args.out.now) 0 in
+    let to = seen (g.O.Sink.held c.write_line.new.out) (g.O.Sink.faults c.write_line.new.out) 0 in
+    let end = c.write_line.result in
+    let written : WritesLine c.in_ok-line.line.items mid from new to end = subst (λ bs. WritesLine bs mid from new to end) c.deref-2.ensures.value (c.write_line.ensures 0) in
+    subst (λ (e : End). Gains modes (plain_code old.code) line (PrintTop c.args.count) k d old.bases new.bases e) c.in-Paused.is (written_gains modes (plain_code old.code) line c.args.count k d old mid new c.in_ok-line.line from to end c.in_ok-line.ensures written)
+
 pub returns : goal.returns
 returns g c =
     let old = c.args.store.now in
@@ -45,5 +58,6 @@ returns g c =
     record {
       did = λ modes line w n. writes modes old line c.args.count w mid new c.in_ok-line.line (from n) (to n) end c.in_ok-line.ensures (written n);
       tells = λ line. c.in_default.not-Paused;
+      gained = λ modes line k d. written_gains modes (plain_code old.code) line c.args.count k d old mid new c.in_ok-line.line (from 0) (to 0) end c.in_ok-line.ensures (written 0);
       no_read = reads_none c.in_ok-line.line.items mid new (from 0) (to 0) end (written 0);
     }

@@ -7,10 +7,12 @@ use Rattle.setl_store.specs.Standing.{variables}
 use Rattle.setl_text.specs.code.Reads.{ReaderState, ahead}
 use Rattle.setl_machine_control.specs.Control.{world_of, stood_for, IsRest}
 use Rattle.setl_machine_control.specs.Declaring.{modes_of}
+use Rattle.setl_machine.specs.Gaining.{Gains}
 use Rattle.setl_machine.specs.Hearing.{ended}
 use Rattle.setl_machine_control.specs.Answers.{next_of}
 use Rattle.setl_machine.specs.Outcome.{seen, Steps}
 use Rattle.setl_machine_control.specs.declared.end.End.TheVariants.{Paused}
+use Rattle.setl_machine.proofs.RunGains.{ended_gains}
 use Rattle.setl_machine.proofs.Stays.{takes_none}
 use Rattle.setl_machine.proofs.Stepping.{in_hand, by_step, quiet_steps, quiet_no_write, quiet_no_read, stays_honest}
 use Rattle.setl_machine.proofs.Told.{tells_code, tells_ends, tells_here, on_ok}
@@ -28,6 +30,17 @@ returns-in-Print-clause-did g c =
     λ rest h.
     let w = world_of c.args.control.now rest in
     (rest, h, by_step (modes_of c.args.declarations.now) m (stood_for s.core c.args.control.now rest) (stood_for c.print_telling.new.store.core c.args.control.now rest) line (PrintTop c.in-Print.count) old new (ended c.print_telling.result) here (c.print_telling.ensures.did (modes_of c.args.declarations.now) line w faults))
+
+pub returns-in-Print-clause-gained : goal.returns-in-Print-clause-gained
+returns-in-Print-clause-gained g c = λ rest rest'.
+    let s = c.args.store.now in
+    let m = plain_code s.code in
+    let modes = modes_of c.args.declarations.now in
+    let line = c.in-Some.step.now.line in
+    let here : fetch m s.core.now.body s.core.now.at ≡ Some (line, PrintTop c.in-Print.count) = in_hand m s.core (variables s.core) c.in-Some.step.now (Print c.in-Print.count) c.in-Some.ensures.some c.in-Print.is in
+    let k = stood_for s.core c.args.control.now rest in
+    let d = stood_for c.print_telling.new.store.core c.args.control.now rest' in
+    ended_gains modes m line (PrintTop c.in-Print.count) k d s.bases c.print_telling.new.store.bases (ended c.print_telling.result) here (c.print_telling.ensures.gained modes line k d)
 
 pub returns-in-Print-clause-tells : goal.returns-in-Print-clause-tells
 returns-in-Print-clause-tells g c =
@@ -60,6 +73,17 @@ returns-in-Paused-clause-did g c =
     let to = stood_for c.read.new.store.core c.read.new.control rest in
     (did.0, did.1, by_step modes m k to line ReadOne old new Paused here (subst (λ e. Steps modes (next_of modes m line ReadOne k) old new to e) c.in-Paused.is did.2))
 
+pub returns-in-Paused-clause-gained : goal.returns-in-Paused-clause-gained
+returns-in-Paused-clause-gained g c = λ rest rest'.
+    let s = c.args.store.now in
+    let m = plain_code s.code in
+    let modes = modes_of c.args.declarations.now in
+    let line = c.in-Some.step.now.line in
+    let here : fetch m s.core.now.body s.core.now.at ≡ Some (line, ReadOne) = in_hand m s.core (variables s.core) c.in-Some.step.now Read c.in-Some.ensures.some c.in-Read.is in
+    let k = stood_for s.core c.args.control.now rest in
+    let d = stood_for c.read.new.store.core c.read.new.control rest' in
+    ended_gains modes m line ReadOne k d s.bases c.read.new.store.bases Paused here (subst (Gains modes m line ReadOne k d s.bases c.read.new.store.bases) c.in-Paused.is (c.read.ensures.gained modes line k d))
+
 pub returns-in_default-read : goal.returns-in_default-read
 returns-in_default-read g c =
     let s = c.args.store.now in
@@ -77,6 +101,10 @@ returns-in_default-read g c =
           let k = stood_for s.core c.args.control.now did.0 in
           let to = stood_for c.read.new.store.core c.read.new.control rest in
           (did.0, did.1, by_step modes m k to line ReadOne old new c.read.result here did.2);
+      gained = λ rest rest'.
+          let k = stood_for s.core c.args.control.now rest in
+          let d = stood_for c.read.new.store.core c.read.new.control rest' in
+          ended_gains modes m line ReadOne k d s.bases c.read.new.store.bases c.read.result here (c.read.ensures.gained modes line k d);
       tells = λ line' i f. c.in_default-read.not-Paused;
       prints = λ e. absurd (c.read.ensures.no_write e);
       reads = λ e. (line, here);
@@ -111,6 +139,7 @@ returns-in_default-family_of g c =
             subst (λ (r : ReaderState). IsRest (ahead r.ended left) rest) reader h,
             by_step modes m k d line what now now (ended r) c.in-Some.ensures.some (quiet_steps modes (next_of modes m line what k) d now (ended r) (does.0 rest)),
           );
+      gained = λ rest rest'. ended_gains modes m line what (stood_for s.core from rest) (stood_for new.core to rest') s.bases new.bases (ended r) c.in-Some.ensures.some (c.quiet_telling.ensures.gained rest rest');
       tells = tells_here s new from to line what r c.in-Some.ensures.some does.1;
       prints = λ e. absurd (quiet_no_write modes (next_of modes m line what (stood_for s.core from [])) (stood_for new.core to []) (ended r) (does.0 []) e);
       reads = λ e. absurd (quiet_no_read modes (next_of modes m line what (stood_for s.core from [])) (stood_for new.core to []) (ended r) (does.0 []) e);

@@ -1,13 +1,16 @@
-use Rattle.std.proofs.Common.{◌∙◌, [], map, ap, sym, refl, Ok, Err}
+use Rattle.std.proofs.Common.{◌∙◌, [], map, ap, sym, subst, refl, Ok, Err}
 use Rattle.std.specs.Prelude.{cond}
 use Rattle.setl_code.specs.Code.{Alter}
-use Rattle.setl_code.specs.Plain.{plain_slot, plain_bracket, plain_alteration}
+use Rattle.setl_code.specs.Plain.{plain_code, plain_slot, plain_bracket, plain_alteration}
 use Rattle.setl_store.specs.Standing.{variables}
 use Rattle.setl_code_events.specs.Told.{store_told}
 use Rattle.setl_watch.specs.Notices.{noticed}
 use Rattle.setl_watch.specs.code.NoticeOf.{notice_of}
 use Rattle.setl_machine_control.specs.Control.{stood_for}
 use Rattle.setl_machine_control.specs.Declaring.{modes_of}
+use Rattle.setl_machine_control.specs.declared.end.End.{End}
+use Rattle.setl_machine.specs.Gaining.{Gains}
+use Rattle.setl_machine.proofs.Gaining.{altered_gains}
 use Rattle.setl_machine.proofs.Told.{in_body, slot_stays, stayed_alter, tells_store, tells_alter, telling_on, telling_ends}
 use Rattle.setl_machine.proofs.variables.alter_telling.Goals as goal
 
@@ -65,3 +68,42 @@ returns-in_default-clause-did c =
     let u = c.in_ok-updated.updated in
     let did = c.in_ok-updated.ensures.did in
     telling_ends modes old new from to c.args.line (Alter a x bs) u.end (Err u.end) c.in_default.not-Paused refl did.1
+
+pub returns-in_ok-stored_events-in-Paused-clause-gained : goal.returns-in_ok-stored_events-in-Paused-clause-gained
+returns-in_ok-stored_events-in-Paused-clause-gained c = λ rest rest'.
+    let old = c.args.store.now in
+    let new = c.alter.new.store in
+    let from = c.args.control.now in
+    let to = c.alter.new.control in
+    let modes = modes_of c.args.declarations.now in
+    let a = plain_alteration c.args.what in
+    let x = plain_slot (variables old.core) c.args.slot in
+    let bs = map plain_bracket c.args.brackets.now in
+    let u = c.in_ok-updated.updated in
+    subst (λ (e : End). Gains modes (plain_code old.code) c.args.line (Alter a x bs) (stood_for old.core from rest) (stood_for new.core to rest') old.bases new.bases e) c.in-Paused.is (altered_gains modes c.requires.serves.main old new from to c.args.line a x bs u.stored rest rest' u.end c.in_ok-updated.ensures.stored c.in_ok-updated.ensures.gained)
+
+pub returns-else-updated-clause-gained : goal.returns-else-updated-clause-gained
+returns-else-updated-clause-gained c = λ rest rest'.
+    let old = c.args.store.now in
+    let new = c.alter.new.store in
+    let from = c.args.control.now in
+    let to = c.alter.new.control in
+    let modes = modes_of c.args.declarations.now in
+    let a = plain_alteration c.args.what in
+    let x = plain_slot (variables old.core) c.args.slot in
+    let bs = map plain_bracket c.args.brackets.now in
+    let u = c.in_ok-updated.updated in
+    subst (λ (e : End). Gains modes (plain_code old.code) c.args.line (Alter a x bs) (stood_for old.core from rest) (stood_for new.core to rest') old.bases new.bases e) c.in-Paused.is (altered_gains modes c.requires.serves.main old new from to c.args.line a x bs u.stored rest rest' u.end c.in_ok-updated.ensures.stored c.in_ok-updated.ensures.gained)
+
+pub returns-in_default-clause-gained : goal.returns-in_default-clause-gained
+returns-in_default-clause-gained c = λ rest rest'.
+    let old = c.args.store.now in
+    let new = c.alter.new.store in
+    let from = c.args.control.now in
+    let to = c.alter.new.control in
+    let modes = modes_of c.args.declarations.now in
+    let a = plain_alteration c.args.what in
+    let x = plain_slot (variables old.core) c.args.slot in
+    let bs = map plain_bracket c.args.brackets.now in
+    let u = c.in_ok-updated.updated in
+    altered_gains modes c.requires.serves.main old new from to c.args.line a x bs u.stored rest rest' u.end c.in_ok-updated.ensures.stored c.in_ok-updated.ensures.gained

@@ -23,4 +23,4 @@ returns-clause-ran g c =
     let u = streams (seen g.I.Source.left g.I.Source.calls g.I.Source.faults c.run_watched.new.input) (seen g.O.Sink.held g.O.Sink.calls g.O.Sink.faults c.run_watched.new.out) (watched (heard c.run_watched.new.watchers.items) c.run_watched.new.reports.items) in
     subst (λ ms. RunsCode (plain_code c.args.code.now) ms c.args.turns s u c.run_watched.result) (ap modes_of c.in_ok-declarations.ensures)
     (code_ran (modes_of c.in_ok-declarations.declarations) c.args.turns c.args.code.now c.in_ok-store.store c.in_ok-control.control s u
-    c.run_watched.new.store.core c.run_watched.new.control c.run_watched.result c.in_ok-store.ensures c.in_ok-control.ensures c.run_watched.ensures.ran c.run_watched.ensures.whole c.run_watched.ensures.took c.run_watched.ensures.honest)
+    c.run_watched.new.store.core c.run_watched.new.control c.run_watched.result c.in_ok-store.ensures c.in_ok-control.ensures (λ rest h. let a = c.run_watched.ensures.ran rest h in (a.0, a.1, a.2, a.3, a.4, a.5)) c.run_watched.ensures.whole c.run_watched.ensures.took c.run_watched.ensures.honest)
