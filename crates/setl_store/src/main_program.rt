@@ -47,7 +47,9 @@ impl<'c> Store<'c> {
     /// Has no effect: it hands a proof that a variable which the main program doesn't have is `om`.
     pub fn learn_main(&self)
         ensures { (x : Variable) → IsMissing self.now.code x → main_held x self.now.core ≡ There None }
-    {}
+    {
+        let _at = self.at;
+    }
 }
 
 /// The place of a slot of the main program.
