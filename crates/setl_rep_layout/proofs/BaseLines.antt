@@ -1,8 +1,7 @@
 -- The line of a base, part by part.
-use Rattle.std.proofs.Common.{◌≡◌, ◌∙◌, ℕ, List, [], ◌∷◌, ◌++◌, codes, decimal, length, map, refl, ap, sym}
+use Rattle.std.proofs.Common.{◌≡◌, ◌∙◌, ℕ, List, [], ◌∷◌, ◌++◌, codes, decimal, length, refl, ap, sym}
 use Rattle.std.proofs.lemmas.List.{append_assoc}
 use Rattle.setl_base.specs.Base.{BaseState}
-use Rattle.setl_text.specs.Texts.{inner_text, spaced}
 use Rattle.setl_modes_dump.specs.Dump.{base_line}
 use Rattle.setl_rep_layout.specs.Members.{values_of}
 use Rattle.setl_rep_layout.specs.Texts.{after_blanks, inner_texts}

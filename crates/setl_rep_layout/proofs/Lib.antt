@@ -5,3 +5,5 @@ pub mod BaseLines
 pub mod Slots
 pub mod Tables
 pub mod Modes
+pub mod Finding
+pub mod ByModes

@@ -1,17 +1,17 @@
 -- The members of a base by their numbers, and the texts of sets of them.
-use Rattle.std.proofs.Common.{◌≡◌, ◌∙◌, ℕ, zero, suc, ◌+◌, ◌<◌, ◌≤◌, Bool, true, false, cond, if◌then◌else◌, List, [], ◌∷◌, ◌++◌, length, map, drop, decimal, Option, Some, None, nat_eq, ⊎_elim, refl, ap, sym, subst, arith}
-use Rattle.std.specs.Prelude.{slice_get, IsSome, is_some}
+use Rattle.std.proofs.Common.{◌≡◌, ◌∙◌, ℕ, zero, suc, ◌+◌, ◌<◌, ◌≤◌, Bool, true, false, cond, if◌then◌else◌, List, [], ◌∷◌, ◌++◌, length, map, drop, decimal, Option, Some, None, nat_eq, refl, ap, sym, subst, arith}
+use Rattle.std.specs.Prelude.{slice_get, IsSome}
 use Rattle.std.specs.List.{list_any}
 use Rattle.std.specs.List.Sorted.{IsStrictlyIncreasing}
 use Rattle.std.specs.Option.{option_map, unwrap_or}
 use Rattle.std.specs.Ordering.{nat_cmp, is_eq}
 use Rattle.std.specs.FinSet as set
-use Rattle.std.proofs.lemmas.Bool.{false≢true, cases_Bool}
+use Rattle.std.proofs.lemmas.Bool.{false≢true}
 use Rattle.setl_value.specs.Datum.{Datum}
 use Rattle.setl_value.specs.Order.{datum_cmp}
 use Rattle.setl_set.specs.Sets.{has_datum}
 use Rattle.setl_base.specs.declared.Elt.{Elt}
-use Rattle.setl_base.specs.Base.{Member, BaseState, IsBase, handle, member_at, value_of, find, find_from}
+use Rattle.setl_base.specs.Base.{Member, BaseState, IsBase, handle, value_of, find_from}
 use Rattle.setl_modes_dump.specs.Dump.{number_from, block_number, numbers_from, digits_of, component}
 use Rattle.setl_rep_forms.specs.Laws.{TestedAtNumber}
 use Rattle.setl_rep_forms.specs.Stands.{value_at, members_at, parts_at, AreLiving, AreHandles}
@@ -49,7 +49,7 @@ number_by : (n : ℕ) (d : Datum) (m : Member) (ms : List Member) (e : Elt) (b :
 number_by n d m ms e true rest p = ap (λ (o : Option Elt). unwrap_or (option_map (λ (x : Elt). x.block) o) n) p
 number_by n d m ms e false rest p = let k : suc n ≡ n + 1 = omega arith in ap (λ j. number_from j d (map (λ x. x.value) ms)) k ∙ rest p
 
-number_found : (n : ℕ) (d : Datum) (ms : List Member) (e : Elt) → find_from n ms d ≡ Some e → number_from n d (map (λ m. m.value) ms) ≡ e.block
+pub number_found : (n : ℕ) (d : Datum) (ms : List Member) (e : Elt) → find_from n ms d ≡ Some e → number_from n d (map (λ m. m.value) ms) ≡ e.block
 number_found n d [] e h = absurd (cc)
 number_found n d (m ∷ ms) e h = number_by n d m ms e (is_eq (datum_cmp d m.value)) (λ p. number_found (n + 1) d ms e p) h
 

@@ -1,42 +1,38 @@
 -- The text of a value by its mode, from each form that the mode may have.
-use Rattle.std.proofs.Common.{◌≡◌, ◌∙◌, ℕ, suc, ◌+◌, ◌<◌, ◌≤◌, Bool, true, false, cond, List, [], ◌∷◌, ◌++◌, length, map, codes, decimal, Option, Some, None, option_and_then, nat_eq, refl, ap, sym, subst, arith}
-use Rattle.std.specs.Prelude.{slice_get, IsSome, is_some}
-use Rattle.std.specs.List.{list_any}
-use Rattle.std.specs.Option.{option_map}
+use Rattle.std.proofs.Common.{◌≡◌, ◌∙◌, ℕ, Bool, true, false, List, ◌∷◌, ◌++◌, map, codes, decimal, Option, Some, None, refl, ap, sym, subst}
+use Rattle.std.specs.Prelude.{IsSome}
 use Rattle.std.specs.Ordering.{nat_cmp}
 use Rattle.std.specs.FinSet as set
 use Rattle.std.proofs.lemmas.Bool.{false≢true}
 use Rattle.setl_value.specs.Datum as datum
 use Rattle.setl_value.specs.Datum.{Datum, Elements, no_element, element_then, Parts, no_part, om_then, part_then, set_of, tuple_of, element_list, part_list, elements_of, element_list-elements_of}
-use Rattle.setl_value.specs.Order.{IsRising}
-use Rattle.setl_value.specs.Pairs.{images}
-use Rattle.setl_text.specs.Texts.{spaced, inner_text}
+use Rattle.setl_text.specs.Texts.{spaced}
 use Rattle.setl_base.specs.declared.Elt.{Elt}
 use Rattle.setl_base.specs.Base.{BaseState, IsBase, value_of}
-use Rattle.setl_modes_dump.specs.Dump.{Bases, part_text, plain_text, set_text, map_text, only_text, image_text, images_from as texts_from, form_word, listed, digits_or_none, numbers_from, component}
+use Rattle.setl_modes_dump.specs.Dump.{Bases, part_text, plain_text, set_text, map_text, images_from as texts_from, form_word, listed, digits_or_none, numbers_from, component}
 use Rattle.setl_modes.specs.declared.mode.Form.{Form as Attribute}
 use Rattle.setl_modes.specs.declared.mode.Form.TheVariants.{Plain, Local, Remote, Sparse}
 use Rattle.setl_modes.specs.Modes.{Mode, General, Integers, Strings, Booleans, Atoms, Elements as Element, Sets, Tuples, SingleMaps, MultiMaps}
 use Rattle.setl_rep_bases.specs.declared.BaseId.{BaseId}
 use Rattle.setl_rep_bases.specs.BaseId.{main}
 use Rattle.setl_rep_bases.specs.Bases.{BasesState, base_at}
-use Rattle.setl_rep_building.specs.HasForm.{layout_of, placed, place_of, base_of, content_mode, HasForm, IsPlain, IsSetForm, IsTupleForm, IsMapForm, IsTableOf, HaveForms}
-use Rattle.setl_rep_forms.specs.Form.{Layout, Form, om, plain, element, numbers, table, handles, Entries, no_entry, entry_then, remote, sparse}
-use Rattle.setl_rep_forms.specs.Stands.{stands, value_at, members_at, parts_at, IsOver, AreOver, IsContent, AreHandles}
+use Rattle.setl_rep_building.specs.HasForm.{layout_of, placed, place_of, base_of, content_mode, HasForm, IsSetForm, IsTupleForm, IsMapForm, HaveForms}
+use Rattle.setl_rep_forms.specs.Form.{Layout, Form, om, plain, element, numbers, table, handles, Entries, remote, sparse}
+use Rattle.setl_rep_forms.specs.Stands.{stands, members_at, parts_at, IsOver, AreOver, AreHandles}
 use Rattle.setl_rep_maps.specs.Contents.{content_of, HasBase, IsKeyedForm, IsTable}
 use Rattle.setl_rep_maps.specs.Laws.{ContentsStandForImages}
-use Rattle.setl_rep_tables.specs.Tables.{content_in, images_of, table_pairs}
+use Rattle.setl_rep_tables.specs.Tables.{content_in, table_pairs}
 use Rattle.setl_rep_layout.specs.Listing.{has_content, ListsExactly}
-use Rattle.setl_rep_layout.specs.Laid.{attribute_of, IsAttribute, IsAttributed, IsLaid, AreContentsLaid}
+use Rattle.setl_rep_layout.specs.Laid.{attribute_of, IsAttributed, IsLaid, AreContentsLaid}
 use Rattle.setl_rep_layout.specs.Members.{values_of, members_by}
-use Rattle.setl_rep_layout.specs.Texts.{after_blanks, held_text, element_text, handle_texts, entry_text, entry_texts}
+use Rattle.setl_rep_layout.specs.Texts.{after_blanks, held_text, element_text, handle_texts, entry_texts}
 use Rattle.setl_rep_layout.proofs.Members.{components, element_number}
 use Rattle.setl_rep_layout.proofs.Tables.{images_text, content_has, texts_listed, IsMapOver}
 use Rattle.setl_rep_layout.proofs.Words.{spaced_after}
 
 -- ---- plain values
 
-plain_tuple : (bases : Bases) (m : Mode) (d : Datum) → base_of m ≡ None → part_text bases (Tuples m) d ≡ plain_text d
+pub plain_tuple : (bases : Bases) (m : Mode) (d : Datum) → base_of m ≡ None → part_text bases (Tuples m) d ≡ plain_text d
 plain_tuple bases General d e = refl
 plain_tuple bases Integers d e = refl
 plain_tuple bases Strings d e = refl

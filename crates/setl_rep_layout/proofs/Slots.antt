@@ -1,5 +1,5 @@
 -- The numbers of the slots that have a content.
-use Rattle.std.proofs.Common.{◌≡◌, ◌∙◌, map, ℕ, zero, suc, ◌+◌, ◌<◌, ◌≤◌, Bool, true, false, cond, ◌||◌, if◌then◌else◌, List, [], ◌∷◌, ◌++◌, length, filter, get_or, Option, Some, None, nat_eq, ⊎_elim, refl, ap, sym, subst, arith}
+use Rattle.std.proofs.Common.{◌≡◌, ◌∙◌, map, ℕ, zero, suc, ◌+◌, ◌<◌, ◌≤◌, Bool, true, false, cond, ◌||◌, if◌then◌else◌, List, [], ◌∷◌, ◌++◌, length, filter, Option, Some, None, nat_eq, ⊎_elim, refl, ap, sym, subst, arith}
 use Rattle.std.specs.Prelude.{is_some, option_copied}
 use Rattle.std.specs.Borrow.{Bor}
 use Rattle.std.specs.Option.{option_map}
@@ -11,10 +11,10 @@ use Rattle.std.proofs.lemmas.List.{append-nil}
 use Rattle.std.proofs.lemmas.List.Elements.{filter-append}
 use Rattle.std.proofs.lemmas.List.FromFn.{get_or-range_with_len, length-range_with_len}
 use Rattle.std.proofs.lemmas.List.Kept.{IsStrictlyIncreasing-filter}
-use Rattle.setl_remote.specs.Slots.{slot_at, slots_len}
+use Rattle.setl_remote.specs.Slots.{slot_at}
 use Rattle.setl_rep_forms.specs.declared.held.Held.{Held}
 use Rattle.setl_sparse.specs.Entries.{content_at}
-use Rattle.setl_rep_forms.specs.Form.{Form, Entries, entries_of}
+use Rattle.setl_rep_forms.specs.Form.{Form, entries_of}
 use Rattle.setl_rep_forms.specs.FormOf.{form}
 use Rattle.setl_rep_tables.specs.Tables.{content_in}
 use Rattle.setl_rep_layout.specs.Listing.{ListsExactly}

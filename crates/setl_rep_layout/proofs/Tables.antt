@@ -1,18 +1,15 @@
 -- The texts of maps by their contents.
-use Rattle.std.proofs.Common.{◌≡◌, ◌∙◌, ℕ, zero, suc, ◌+◌, ◌<◌, ◌≤◌, ◌==◌, Bool, true, false, cond, List, [], ◌∷◌, ◌++◌, length, map, decimal, Option, Some, None, option_and_then, nat_eq, refl, ap, sym, subst, arith}
+use Rattle.std.proofs.Common.{◌≡◌, ◌∙◌, ℕ, suc, ◌+◌, ◌≤◌, ◌==◌, Bool, true, false, cond, List, [], ◌∷◌, ◌++◌, length, map, decimal, Option, Some, None, option_and_then, refl, ap, sym, subst, arith}
 use Rattle.std.specs.Prelude.{slice_get, IsSome, is_some}
-use Rattle.std.specs.List.{list_any}
-use Rattle.std.specs.Option.{option_map, unwrap_or}
 use Rattle.std.proofs.lemmas.Bool.{false≢true, eqb-true}
 use Rattle.setl_value.specs.Datum as datum
 use Rattle.setl_value.specs.Datum.{Datum, Elements, no_element, element_then, set_of, element_list, elements_of, elements_of-element_list}
 use Rattle.setl_value.specs.Pairs.{images}
-use Rattle.setl_base.specs.Base.{BaseState, IsBase}
+use Rattle.setl_base.specs.Base.{IsBase}
 use Rattle.setl_modes_dump.specs.Dump.{part_text, only_text, image_text, images_from as texts_from}
 use Rattle.setl_modes.specs.Modes.{Mode}
 use Rattle.setl_rep_bases.specs.declared.BaseId.{BaseId}
 use Rattle.setl_rep_bases.specs.Bases.{BasesState, base_at}
-use Rattle.setl_rep_building.specs.HasForm.{HaveForms}
 use Rattle.setl_rep_forms.specs.Form.{Layout, Form, table, Entries, no_entry, entry_then}
 use Rattle.setl_rep_forms.specs.Stands.{stands, value_at, IsOver, AreOver, IsContent}
 use Rattle.setl_rep_maps.specs.Contents.{content_of}
@@ -80,7 +77,7 @@ of_number bs many m f n (Some c) e h =
 
 -- ---- all of them
 
-texts_walk : (text : List Datum → List ℕ) (pairs : List Datum) (g : ℕ → Option (List ℕ)) (n : ℕ) (es : List Datum)
+pub texts_walk : (text : List Datum → List ℕ) (pairs : List Datum) (g : ℕ → Option (List ℕ)) (n : ℕ) (es : List Datum)
     → ((i : ℕ) (d : Datum) → slice_get es i ≡ Some d → image_text text (n + i) (images d pairs) ≡ one (g (n + i))) → texts_from text n pairs es ≡ walk g n (length es)
 texts_walk text pairs g n [] h = refl
 texts_walk text pairs g n (e ∷ es) h =

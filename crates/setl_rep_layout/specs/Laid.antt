@@ -1,7 +1,7 @@
 -- Forms that are those of modes over the main program's bases.
 use Rattle.std.specs.Prelude.{◌≡◌, ℕ, Some}
 use Rattle.setl_modes.specs.declared.mode.Form.{Form as Attribute}
-use Rattle.setl_modes.specs.declared.mode.Form.TheVariants.{Plain, Local, Remote, Sparse}
+use Rattle.setl_modes.specs.declared.mode.Form.TheVariants.{Plain}
 use Rattle.setl_modes.specs.Modes.{Mode, Elements, Sets, SingleMaps, MultiMaps}
 use Rattle.setl_rep_bases.specs.BaseId.{main}
 use Rattle.setl_rep_bases.specs.Bases.{BasesState}

@@ -10,14 +10,17 @@ ghost use Rattle.setl_rep_forms.specs.Stands.{stands, IsOver};
 ghost use Rattle.setl_rep_layout.specs.Laid.{IsAttributed};
 ghost use Rattle.setl_rep_layout.specs.Members.{member_list, members_by, values_of};
 ghost use Rattle.setl_rep_layout.specs.Texts.{after_blanks, inner_texts};
+ghost use Rattle.setl_value.specs.code.DatumOf.{lent};
 
 use crate::parts::push_part;
+use crate::values::push_by_mode;
 use setl_base::Base;
 use setl_modes::Mode;
 use setl_rep_based::member;
 use setl_rep_bases::Bases;
 use setl_rep_forms::Held;
 use setl_text::{push_decimal, text};
+use setl_value::Value;
 use std::alloc::{AllocError, Global};
 
 /// Adds the line of a base: its name, how many members it has, and these by their block numbers.
@@ -86,6 +89,32 @@ pub fn push_variable(
     match h {
         Held::Om => into.extend_from_slice(b"om")?,
         _ => push_part(alloc, mode, h, bases, into)?,
+    }
+    into.push(b'\n')?;
+    Ok(())
+}
+
+/// Adds the line of a declared variable of the main program by its value as it is: its name, and the text that its mode
+/// gives the value, or `om` where there is none.
+///
+/// Nothing is asked of the value or of the bases: what no base has gets the number 0, or isn't listed. The error is want of
+/// memory. Its cost is near linear in the size of the value and in the number of members of the bases that are written by
+/// digits.
+pub fn push_value(
+    alloc: Global,
+    name: &[u8],
+    mode: &Mode,
+    value: Option<&Value>,
+    bases: &Bases,
+    into: &mut Vec<u8>,
+) -> Result<(), AllocError>
+    ensures { OnOk result (into.new.items ≡ into.old.items ++ variable_line (members_by bases.now) name.now (mode_of mode.now) (lent value.entry)) }
+{
+    into.extend_from_slice(name)?;
+    into.push(b' ')?;
+    match value {
+        None => into.extend_from_slice(b"om")?,
+        Some(v) => push_by_mode(alloc, mode, v, bases, into)?,
     }
     into.push(b'\n')?;
     Ok(())

@@ -17,6 +17,7 @@ use crate::sets::{push_digits, push_numbers};
 use setl_base::Elt;
 use setl_modes::{Form, Mode};
 use setl_remote::Bits;
+use setl_rep_based::Numbers;
 use setl_rep_bases::{BaseId, Bases};
 use setl_rep_forms::Held;
 use setl_rep_maps::{content, learn, table_of};
@@ -55,8 +56,8 @@ pub(crate) fn push_part(
     }
 }
 
-// Adds the text of a value that is held plain.
-fn push_plain(alloc: Global, v: &Value, into: &mut Vec<u8>) -> Result<(), AllocError>
+/// Adds the text of a value that is written plain. The error is want of memory.
+pub(crate) fn push_plain(alloc: Global, v: &Value, into: &mut Vec<u8>) -> Result<(), AllocError>
     ensures { OnOk result (into.new.items ≡ into.old.items ++ plain_text (datum v.now)) }
 {
     let inner = text(alloc, v)?;
@@ -105,11 +106,18 @@ fn push_handle(e: Option<Elt>, into: &mut Vec<u8>) -> Result<(), AllocError>
     Ok(())
 }
 
-// Adds the word of the attribute of a mode.
-fn push_word(mode: &Mode, into: &mut Vec<u8>) -> Result<(), AllocError>
+/// Adds the word of the attribute of a mode. The error is want of memory.
+pub(crate) fn push_word(mode: &Mode, into: &mut Vec<u8>) -> Result<(), AllocError>
     ensures { OnOk result (into.new.items ≡ into.old.items ++ form_word (attribute_of (mode_of mode.now))) }
 {
-    match attribute(mode) {
+    push_form(attribute(mode), into)
+}
+
+/// Adds the word of an attribute. The error is want of memory.
+pub(crate) fn push_form(form: Form, into: &mut Vec<u8>) -> Result<(), AllocError>
+    ensures { OnOk result (into.new.items ≡ into.old.items ++ form_word form) }
+{
+    match form {
         Form::Plain => into.extend_from_slice(b"plain"),
         Form::Local => into.extend_from_slice(b"local"),
         Form::Remote => into.extend_from_slice(b"remote"),
@@ -153,7 +161,7 @@ fn push_remote(
 {
     push_word(mode, into)?;
     into.push(b' ')?;
-    push_digits(bases.at(b), bits, into)
+    push_digits(bases.at(b), Numbers::Bits(bits), into)
 }
 
 // Adds the text of a set that is kept as a table.

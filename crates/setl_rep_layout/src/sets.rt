@@ -1,13 +1,16 @@
 //! The texts of sets of numbers.
 
-ghost use Rattle.std.specs.Prelude.{◌≡◌, ◌++◌, if◌then◌else◌, OnOk};
+ghost use Rattle.std.specs.FinSet as set;
+ghost use Rattle.std.specs.Prelude.{◌≡◌, ◌++◌, if◌then◌else◌, IfOk, OnOk};
 ghost use Rattle.setl_modes_dump.specs.Dump.{digits_of, digits_or_none, listed, numbers_from};
 ghost use Rattle.setl_rep_forms.specs.Stands.{members_at, AreLiving};
+ghost use Rattle.setl_rep_based.specs.Numbers.{numbers_in};
+ghost use Rattle.setl_rep_layout.specs.Listing.{ListsExactly};
 ghost use Rattle.setl_rep_layout.specs.Members.{values_of};
 ghost use Rattle.setl_rep_layout.specs.Texts.{after_blanks, decimals};
 
 use setl_base::Base;
-use setl_remote::Bits;
+use setl_rep_based::Numbers;
 use setl_rep_forms::laws;
 use setl_sparse::SparseSet;
 use setl_text::push_decimal;
@@ -15,26 +18,30 @@ use std::alloc::{AllocError, Global};
 
 /// Adds a digit for each block of the base, 1 for a member of the set; `-` where the base has no blocks. The error is want
 /// of memory.
-pub(crate) fn push_digits(base: &Base, bits: &Bits, into: &mut Vec<u8>) -> Result<(), AllocError>
-    ensures { OnOk result (into.new.items ≡ into.old.items ++ digits_or_none (members_at base.now bits.now) (values_of base.now)) }
+pub(crate) fn push_digits(
+    base: &Base,
+    numbers: Numbers<'_>,
+    into: &mut Vec<u8>,
+) -> Result<(), AllocError>
+    ensures { OnOk result (into.new.items ≡ into.old.items ++ digits_or_none (members_at base.now (numbers_in numbers.entry)) (values_of base.now)) }
 {
     let count = base.mark().count;
     if count == 0 {
         into.push(b'-')?;
         return Ok(());
     }
-    push_each_digit(base, bits, into)
+    push_each_digit(base, numbers, into)
 }
 
 // Adds a digit for each block.
-fn push_each_digit(base: &Base, bits: &Bits, into: &mut Vec<u8>) -> Result<(), AllocError>
-    ensures { OnOk result (into.new.items ≡ into.old.items ++ digits_of (members_at base.now bits.now) (values_of base.now)) }
+fn push_each_digit(base: &Base, numbers: Numbers<'_>, into: &mut Vec<u8>) -> Result<(), AllocError>
+    ensures { OnOk result (into.new.items ≡ into.old.items ++ digits_of (members_at base.now (numbers_in numbers.entry)) (values_of base.now)) }
 {
     laws::numbers_stand_for_members();
     base.learn();
     let count = base.mark().count;
     for n in 0..count {
-        into.push(digit(bits.test(n + 1)))?;
+        into.push(digit(numbers.test(n + 1)))?;
     }
     Ok(())
 }
@@ -57,8 +64,15 @@ pub(crate) fn push_numbers(
 {
     laws::numbers_stand_for_members();
     base.learn();
-    let list = table.numbers(alloc)?;
+    let list = rising(alloc, table)?;
     push_list(list.as_slice(), into)
+}
+
+/// The numbers of a set, rising. The error is want of memory.
+pub(crate) fn rising(alloc: Global, table: &SparseSet) -> Result<Vec<u64>, AllocError>
+    ensures { IfOk result (λ list. ListsExactly (λ n. set.contains table.now n) list.items) }
+{
+    table.numbers(alloc)
 }
 
 // Adds numbers, each behind a blank; or `-` where there are none.

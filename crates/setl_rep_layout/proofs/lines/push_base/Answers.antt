@@ -1,9 +1,3 @@
-use Rattle.std.proofs.Common.{rules, ◌≡◌, ◌∙◌, ◌++◌, ◌∷◌, [], codes, decimal, length, map, ap, sym}
-use Rattle.std.specs.Prelude.{OnOk}
-use Rattle.setl_text.specs.Texts.{inner_text, spaced}
-use Rattle.setl_modes_dump.specs.Dump.{base_line}
-use Rattle.setl_rep_layout.specs.Members.{values_of}
-use Rattle.setl_rep_layout.specs.Texts.{after_blanks, inner_texts}
 use Rattle.setl_rep_layout.proofs.BaseLines.{base_line_by}
 use Rattle.setl_rep_layout.proofs.lines.push_base.Goals as goal
 

@@ -1,8 +1,7 @@
-use Rattle.std.proofs.Common.{◌≡◌, ◌∙◌, ◌++◌, ◌+◌, drop, ap, sym, arith}
-use Rattle.std.proofs.lemmas.List.{append-nil}
+use Rattle.std.proofs.Common.{◌∙◌, ◌++◌, ◌+◌, drop, ap, sym}
 use Rattle.setl_rep_layout.specs.Members.{member_list, values_of}
 use Rattle.setl_rep_layout.specs.Texts.{after_blanks, inner_texts}
-use Rattle.setl_rep_layout.proofs.Members.{members_end, members_next}
+use Rattle.setl_rep_layout.proofs.Members.{members_next}
 use Rattle.setl_rep_layout.proofs.Words.{inner_split, next_part}
 use Rattle.setl_rep_layout.proofs.lines.push_members.Goals as goal
 

@@ -1,11 +1,11 @@
-use Rattle.std.proofs.Common.{◌≡◌, ◌∙◌, ap, map, sym}
+use Rattle.std.proofs.Common.{◌∙◌, ap, map, sym}
 use Rattle.std.specs.Prelude.{is_some}
 use Rattle.std.specs.Option.{option_map}
 use Rattle.setl_remote.specs.Slots.{slot_at}
 use Rattle.setl_sparse.specs.Entries.{content_at}
 use Rattle.setl_rep_forms.specs.FormOf.{form, of_remote_map, of_sparse_map}
 use Rattle.setl_rep_maps.specs.Contents.{content_of}
-use Rattle.setl_rep_layout.specs.Listing.{has_content, ListsExactly}
+use Rattle.setl_rep_layout.specs.Listing.{has_content}
 use Rattle.setl_rep_layout.proofs.Slots.{mapped_test, same_test, sparse_test}
 use Rattle.setl_rep_layout.proofs.Words.{both, if_ok}
 use Rattle.setl_rep_layout.proofs.numbers.numbers_of.Goals as goal

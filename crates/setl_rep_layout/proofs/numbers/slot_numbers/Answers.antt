@@ -1,6 +1,5 @@
-use Rattle.std.proofs.Common.{◌≡◌, ◌∙◌, ◌+◌, ap, sym, arith}
+use Rattle.std.proofs.Common.{◌∙◌, ap, sym, arith}
 use Rattle.std.specs.Prelude.{is_some}
-use Rattle.setl_remote.specs.Slots.{slot_at}
 use Rattle.setl_rep_layout.proofs.Slots.{copied_some, slots_listed, slots_more}
 use Rattle.setl_rep_layout.proofs.numbers.slot_numbers.Goals as goal
 

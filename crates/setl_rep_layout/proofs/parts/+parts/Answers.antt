@@ -1,8 +1,8 @@
-use Rattle.std.proofs.Common.{◌≡◌, ◌∙◌, ◌++◌, ◌<◌, codes, ap, sym, subst, arith}
-use Rattle.std.specs.Prelude.{OnOk, Some}
+use Rattle.std.proofs.Common.{◌≡◌, ◌∙◌, ◌++◌, codes, ap, sym, subst, arith}
+use Rattle.std.specs.Prelude.{Some}
 use Rattle.setl_value.specs.code.DatumOf.{datum}
 use Rattle.setl_modes.specs.Modes.{mode_of}
-use Rattle.setl_modes_dump.specs.Dump.{form_word, listed, plain_text}
+use Rattle.setl_modes_dump.specs.Dump.{listed}
 use Rattle.setl_base.specs.Base.{IsBase}
 use Rattle.setl_rep_bases.specs.BaseId.{main}
 use Rattle.setl_rep_building.specs.HasForm.{content_mode, HasForm}
@@ -13,7 +13,7 @@ use Rattle.setl_rep_forms.specs.Stands.{stands, IsOver}
 use Rattle.setl_rep_maps.specs.code.Lent.{lent_form}
 use Rattle.setl_rep_maps.specs.Contents.{content_of}
 use Rattle.setl_rep_layout.specs.Laid.{AreContentsLaid}
-use Rattle.setl_rep_layout.specs.Texts.{after_blanks, element_text, entry_texts, handle_texts, held_text}
+use Rattle.setl_rep_layout.specs.Texts.{after_blanks, entry_texts, handle_texts, held_text}
 use Rattle.setl_rep_layout.proofs.Modes.{contents_laid_in, of_element, of_handles, of_map_form, of_plain}
 use Rattle.setl_rep_layout.proofs.Tables.{content_size}
 use Rattle.setl_rep_layout.proofs.Words.{on_ok, two_parts}

@@ -1,5 +1,4 @@
-use Rattle.std.proofs.Common.{◌≡◌, ◌∙◌, ◌++◌, ap, sym}
-use Rattle.std.specs.Prelude.{OnOk}
+use Rattle.std.proofs.Common.{◌∙◌, ◌++◌, ap}
 use Rattle.setl_modes_dump.specs.Dump.{listed, numbers_from}
 use Rattle.setl_modes.specs.Modes.{mode_of}
 use Rattle.setl_rep_bases.specs.Bases.{base_at}
