@@ -97,9 +97,8 @@ pub fn push_variable(
 /// Adds the line of a declared variable of the main program by its value as it is: its name, and the text that its mode
 /// gives the value, or `om` where there is none.
 ///
-/// Nothing is asked of the value or of the bases: what no base has gets the number 0, or isn't listed. The error is want of
-/// memory. Its cost is near linear in the size of the value and in the number of members of the bases that are written by
-/// digits.
+/// Nothing is asked of the value or of the bases: what is no member of its base gets the number 0, or isn't listed. The
+/// error is want of memory. Its cost is near linear in the size of the value and of the text.
 pub fn push_value(
     alloc: Global,
     name: &[u8],
