@@ -1,9 +1,11 @@
 -- The dump of a state of code: the members of each base, and what each declared variable holds.
-use Rattle.std.specs.Prelude.{ℕ, List, [], ◌∷◌, ◌++◌, Option}
+use Rattle.std.specs.Prelude.{ℕ, List, [], ◌∷◌, ◌++◌, Option, slice_get}
+use Rattle.std.specs.Option.{option_map_or}
 use Rattle.setl_value.specs.Datum.{Datum}
 use Rattle.setl_model_runs.specs.Variable.{Variable, name_of}
 use Rattle.setl_modes.specs.Modes.{Mode}
 use Rattle.setl_modes_dump.specs.Dump.{Bases, variable_line, base_lines}
+use Rattle.setl_model.specs.Entered.{Base}
 use Rattle.setl_code.specs.CodeCore.{main_held, CodeCore}
 use Rattle.setl_code_events.specs.Told.{value_held}
 
@@ -23,3 +25,9 @@ variable_lines bases (m ∷ ms) k = variable_line bases (name_of m.0) m.1 (main_
 -- order of their declarations
 abbrev pub code_layout : List (List ℕ) → List (Variable × Mode) → Bases → CodeCore → List ℕ
 code_layout names modes bases k = base_lines bases 0 names ++ variable_lines bases modes k
+
+-- ---- bases that are told
+
+-- the members of each of these bases by its number; none beyond them
+abbrev pub members_of : List Base → Bases
+members_of bases n = option_map_or (λ (b : Base). b.members) (slice_get bases n) []
