@@ -78,13 +78,13 @@ module _ (named : PlacesAreNamed) (count n : ℕ) (beyond : count ≤ n) where
   of_mode m None within = refl
   of_mode m (Some d) within = ap set_from (named n m d (unnamed m within))
 
+  of_either : (b : Bool) (m others : Option Mode) (v : Option Datum) → elements_of_store n m v ≡ [] → elements_of_store n others v ≡ [] → elements_of_store n (cond b m others) v ≡ []
+  of_either true m others v first rest = first
+  of_either false m others v first rest = rest
+
   of_store : (modes : Modes) (x : Variable) (v : Option Datum) → AllNameWithin count modes → elements_of_store n (declared_mode modes x) v ≡ []
   of_store [] x v within = refl
-  of_store (m ∷ ms) x v within = go (is_variable m.0 x)
-    where
-      go : (b : Bool) → elements_of_store n (cond b (Some m.1) (declared_mode ms x)) v ≡ []
-      go true = of_mode m.1 v within.0
-      go false = of_store ms x v within.1
+  of_store (m ∷ ms) x v within = of_either (is_variable m.0 x) (Some m.1) (declared_mode ms x) v (of_mode m.1 v within.0) (of_store ms x v within.1)
 
   none_with : (modes : Modes) (b : Base) (e : Event) → AllNameWithin count modes → b.members ≡ [] → (with_event modes n b e).members ≡ []
   none_with modes b (Stored line x v) within h = ap (lengthened b.members) (of_store modes x v within) ∙ ap (λ ds. lengthened ds []) h
