@@ -1,9 +1,10 @@
 -- The dump of a state of code: the members of each base, and what each declared variable holds.
-use Rattle.std.specs.Prelude.{ℕ, List, [], ◌∷◌, ◌++◌, Option, slice_get}
+use Rattle.std.specs.Prelude.{◌≡◌, ◌<◌, ℕ, true, List, [], ◌∷◌, ◌++◌, Option, slice_get}
 use Rattle.std.specs.Option.{option_map_or}
 use Rattle.setl_value.specs.Datum.{Datum}
 use Rattle.setl_model_runs.specs.Variable.{Variable, name_of}
 use Rattle.setl_modes.specs.Modes.{Mode}
+use Rattle.setl_modes_places.specs.Places.{names}
 use Rattle.setl_modes_dump.specs.Dump.{Bases, variable_line, base_lines}
 use Rattle.setl_model.specs.Entered.{Base}
 use Rattle.setl_code.specs.CodeCore.{main_held, CodeCore}
@@ -27,6 +28,10 @@ abbrev pub code_layout : List (List ℕ) → List (Variable × Mode) → Bases �
 code_layout names modes bases k = base_lines bases 0 names ++ variable_lines bases modes k
 
 -- ---- bases that are told
+
+-- the mode names none but so many bases
+abbrev pub NamesWithin : ℕ → Mode → Type 0
+NamesWithin count m = (b : ℕ) → names b m ≡ true → b < count
 
 -- the members of each of these bases by its number; none beyond them
 abbrev pub members_of : List Base → Bases

@@ -10,11 +10,11 @@ use Rattle.setl_model.specs.Entered.{Base, after_events, cut_back, elements_of_s
 use Rattle.setl_model.specs.Step.{declared_mode}
 use Rattle.setl_model_runs.specs.Events.{Event, Called, Returned, Stored, Printed, Kept, Back, Forgot}
 use Rattle.setl_model_runs.specs.Variable.{Variable, is_variable}
-use Rattle.setl_code_layout.specs.Layout.{members_of}
+use Rattle.setl_code_layout.specs.Layout.{members_of, NamesWithin}
 use Rattle.setl_store.specs.Gained.{no_members}
 use Rattle.setl_machine_control.specs.Declaring.{Modes}
 use Rattle.setl_machine.specs.Gaining.{each_with, bases_after}
-use Rattle.setl_machine_layout.specs.Claims.{AllNameWithin, NamesWithin, BasesAreEntered}
+use Rattle.setl_machine_layout.specs.Claims.{AllNameWithin, BasesAreEntered}
 
 abbrev none : Base
 none = record { members = []; kept = [] }

@@ -1,16 +1,14 @@
 -- What the store of a run has to dump at its end.
-use Rattle.std.specs.Prelude.{◌≡◌, ◌<◌, ℕ, true, List, [], ◌∷◌}
+use Rattle.std.specs.Prelude.{◌≡◌, ℕ, List, [], ◌∷◌}
 use Rattle.setl_model_runs.specs.Events.{Event}
 use Rattle.setl_model_runs.specs.Run.{Next}
 use Rattle.setl_model_runs.specs.Run as runs
-use Rattle.setl_modes.specs.Modes.{Mode}
-use Rattle.setl_modes_places.specs.Places.{names}
 use Rattle.setl_model.specs.Entered.{entered}
 use Rattle.setl_model.specs.World.{World}
 use Rattle.setl_code.specs.Code.{Code}
 use Rattle.setl_code.specs.CodeCore.{CodeCore}
 use Rattle.setl_code.specs.Machine.{machine}
-use Rattle.setl_code_layout.specs.Layout.{code_layout, members_of}
+use Rattle.setl_code_layout.specs.Layout.{code_layout, members_of, NamesWithin}
 use Rattle.setl_store.specs.Gained.{no_members}
 use Rattle.setl_store.specs.Standing.{Standing}
 use Rattle.setl_machine_control.specs.Answers.{start}
@@ -22,10 +20,7 @@ use Rattle.setl_machine.specs.Gaining.{bases_after, RunGains}
 use Rattle.setl_machine.specs.Hearing.{events_told}
 use Rattle.setl_machine.specs.Outcome.{last, Seen, Ran}
 
--- a mode names none but so many bases, and so do those of the declared variables
-abbrev pub NamesWithin : ℕ → Mode → Type 0
-NamesWithin count m = (b : ℕ) → names b m ≡ true → b < count
-
+-- the modes of the declared variables name none but so many bases
 abbrev pub AllNameWithin : ℕ → Modes → Type 0
 AllNameWithin count [] = Unit {0}
 AllNameWithin count (m ∷ ms) = NamesWithin count m.1 × AllNameWithin count ms

@@ -3,7 +3,7 @@ use Rattle.std.proofs.Common.{◌≡◌, ◌∙◌, ℕ, ◌<◌, List, [], leng
 use Rattle.std.specs.Option.{option_map_or}
 use Rattle.std.proofs.lemmas.Option.{slice_get-get_or}
 use Rattle.setl_value.specs.Datum.{Datum}
-use Rattle.setl_code_layout.specs.Layout.{members_of}
+use Rattle.setl_code_layout.specs.Layout.{members_of, NamesWithin}
 use Rattle.setl_model.specs.Entered.{Base}
 use Rattle.setl_modes.specs.Modes.{Mode}
 use Rattle.setl_modes_dump.specs.Dump.{variable_line}
@@ -11,7 +11,6 @@ use Rattle.setl_rep_bases.specs.BaseId.{main}
 use Rattle.setl_rep_bases.specs.Bases.{BasesState, base_at}
 use Rattle.setl_rep_layout.specs.Members.{members_by, values_of}
 use Rattle.setl_store.specs.MainProgram.{AreTold}
-use Rattle.setl_store_layout.specs.Layout.{NamesWithin}
 use Rattle.setl_store_layout.proofs.Agreeing.{lines_agree}
 
 abbrev no_base : Base

@@ -1,10 +1,9 @@
 -- The dump of a store, and of which declared variables there is one.
-use Rattle.std.specs.Prelude.{◌≡◌, ◌<◌, ℕ, zero, suc, true, List}
+use Rattle.std.specs.Prelude.{ℕ, zero, suc, List}
 use Rattle.std.specs.List.{AllByRecursion}
 use Rattle.setl_model_runs.specs.Variable.{Variable, Global, Own, Bound}
 use Rattle.setl_modes.specs.Modes.{Mode}
-use Rattle.setl_modes_places.specs.Places.{names}
-use Rattle.setl_code_layout.specs.Layout.{code_layout, members_of}
+use Rattle.setl_code_layout.specs.Layout.{code_layout, members_of, NamesWithin}
 use Rattle.setl_store.specs.Standing.{Standing}
 
 -- the dump of its core over the members that it tells, with the names of the bases and the modes of the variables in the order
@@ -20,10 +19,6 @@ IsOfMain (Global name) = Unit {0}
 IsOfMain (Own zero name) = Unit {0}
 IsOfMain (Own (suc n) name) = ⊥
 IsOfMain (Bound former name) = ⊥
-
--- the mode names none but so many bases
-abbrev pub NamesWithin : ℕ → Mode → Type 0
-NamesWithin count m = (b : ℕ) → names b m ≡ true → b < count
 
 -- such a variable with such a mode
 abbrev pub IsShown : ℕ → Variable × Mode → Type 0

@@ -2,7 +2,7 @@
 
 ghost use Rattle.std.specs.Prelude.{◌≡◌, ◌++◌, true, length, OnOk};
 ghost use Rattle.setl_code.specs.Plain.{plain_slot};
-ghost use Rattle.setl_code_layout.specs.Layout.{main_value, members_of};
+ghost use Rattle.setl_code_layout.specs.Layout.{main_value, members_of, NamesWithin};
 ghost use Rattle.setl_model_runs.specs.Variable.{name_of};
 ghost use Rattle.setl_modes.specs.Modes.{mode_of};
 ghost use Rattle.setl_modes_dump.specs.Dump.{variable_line};
@@ -15,7 +15,7 @@ ghost use Rattle.setl_rep_layout.specs.Members.{members_by};
 ghost use Rattle.setl_rep_plain.specs.Standing.{held_value, IsHeldOver};
 ghost use Rattle.setl_store.specs.MainProgram.{main_variables, HasMainSlot};
 ghost use Rattle.setl_store_layout.specs.Attributes.{HasAttribute};
-ghost use Rattle.setl_store_layout.specs.Layout.{IsShown, NamesWithin};
+ghost use Rattle.setl_store_layout.specs.Layout.{IsShown};
 ghost use Rattle.setl_store_layout.specs.Places.{Knows};
 
 use crate::places::{Places, slot_of};
