@@ -1,5 +1,5 @@
 -- What events make of bases without members.
-use Rattle.std.proofs.Common.{◌≡◌, ◌∙◌, ◌⊎◌, inl, inr, ◌+◌, ◌<◌, ◌≤◌, ℕ, zero, suc, Bool, true, false, List, [], ◌∷◌, Option, Some, None, refl, sym, ap, arith}
+use Rattle.std.proofs.Common.{◌≡◌, ◌∙◌, ◌⊎◌, inl, inr, ◌+◌, ◌<◌, ◌≤◌, ℕ, zero, suc, Bool, true, false, List, [], ◌∷◌, length, Option, Some, None, refl, sym, ap, arith}
 use Rattle.std.specs.Prelude.{slice_get, cond, take}
 use Rattle.std.specs.Option.{option_map, option_map_or}
 use Rattle.setl_value.specs.Datum.{Datum}
@@ -14,7 +14,7 @@ use Rattle.setl_code_layout.specs.Layout.{members_of, NamesWithin}
 use Rattle.setl_store.specs.Gained.{no_members}
 use Rattle.setl_machine_control.specs.Declaring.{Modes}
 use Rattle.setl_machine.specs.Gaining.{each_with, bases_after}
-use Rattle.setl_machine_layout.specs.Claims.{AllNameWithin, BasesAreEntered}
+use Rattle.setl_machine_layout.specs.Claims.{AllNameWithin, BasesAreEntered, BasesStayAsMany}
 
 abbrev none : Base
 none = record { members = []; kept = [] }
@@ -119,3 +119,20 @@ members_are_entered named modes count es within n = go (split n count)
     go : (n < count) ⊎ (count ≤ n) → members_of (bases_after modes (no_members count) es) n ≡ entered modes n es
     go (inl h) = ap members (nth_after modes n (no_members count) es none (nth_first count n h))
     go (inr h) = ap members (absent_after modes n (no_members count) es (absent_first count n h)) ∙ sym (none_after named count n h modes none es within refl)
+
+-- ---- how many there are
+
+as_many : (modes : Modes) (k : ℕ) (bs : List Base) (e : Event) → length (each_with modes k bs e) ≡ length bs
+as_many modes k [] e = refl
+as_many modes k (b ∷ bs) e = ap suc (as_many modes (suc k) bs e)
+
+as_many_after : (modes : Modes) (bs : List Base) (es : List Event) → length (bases_after modes bs es) ≡ length bs
+as_many_after modes bs [] = refl
+as_many_after modes bs (e ∷ es) = as_many_after modes (each_with modes 0 bs e) es ∙ as_many modes 0 bs e
+
+so_many : (count : ℕ) → length (no_members count) ≡ count
+so_many zero = refl
+so_many (suc count) = ap suc (so_many count)
+
+pub stay_as_many : BasesStayAsMany
+stay_as_many modes count es = as_many_after modes (no_members count) es ∙ so_many count

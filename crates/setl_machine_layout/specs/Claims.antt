@@ -1,5 +1,5 @@
 -- What the store of a run has to dump at its end.
-use Rattle.std.specs.Prelude.{◌≡◌, ℕ, List, [], ◌∷◌}
+use Rattle.std.specs.Prelude.{◌≡◌, ℕ, List, [], ◌∷◌, length}
 use Rattle.setl_model_runs.specs.Events.{Event}
 use Rattle.setl_model_runs.specs.Run.{Next}
 use Rattle.setl_model_runs.specs.Run as runs
@@ -28,6 +28,10 @@ AllNameWithin count (m ∷ ms) = NamesWithin count m.1 × AllNameWithin count ms
 -- the members of each base are what the events enter into it
 abbrev pub BasesAreEntered : Type 0
 BasesAreEntered = (modes : Modes) (count : ℕ) (es : List Event) → AllNameWithin count modes → (n : ℕ) → members_of (bases_after modes (no_members count) es) n ≡ entered modes n es
+
+-- and no base comes or goes
+abbrev pub BasesStayAsMany : Type 0
+BasesStayAsMany = (modes : Modes) (count : ℕ) (es : List Event) → length (bases_after modes (no_members count) es) ≡ count
 
 -- Where a run ended, the dump of what the store holds and tells is that of its last state; after a fault and want of memory nothing is known of it.
 abbrev pub LaysOut : List (List ℕ) → Modes → Next CodeCore → Standing → End → Type 0

@@ -2,12 +2,13 @@
 //! laws alone.
 #![tactic(auto)]
 
-ghost use Rattle.setl_machine_layout.specs.Claims.{BasesAreEntered, RunsLayOut};
+ghost use Rattle.setl_machine_layout.specs.Claims.{BasesAreEntered, BasesStayAsMany, RunsLayOut};
 
 /// Has no effect: it hands a proof that what the events of a run make of bases without members is what the meaning enters into
-/// each of them, where the declared variables name no other base.
+/// each of them, where the declared variables name no other base; and that they stay as many.
 pub fn bases_are_entered()
-    ensures { BasesAreEntered }
+    ensures entered { BasesAreEntered }
+    ensures many { BasesStayAsMany }
 {
     setl_modes_places::places_are_named();
 }

@@ -1,8 +1,8 @@
 -- The bound on turns that words ask for, and the line that is told of others.
-use Rattle.std.proofs.Common.{◌≡◌, ◌<◌, ◌^◌, ℕ, false, List, [], ◌∷◌, ◌++◌, Some, codes, refl, subst, sym, arith}
+use Rattle.std.proofs.Common.{◌≡◌, ◌<◌, ◌^◌, ℕ, true, false, List, [], ◌∷◌, ◌++◌, Some, codes, refl, subst, sym, arith}
 use Rattle.std.specs.List.{fold}
 use Rattle.setl_top_options.specs.declared.given.RunOption.{RunOption}
-use Rattle.setl_top_options.specs.declared.given.RunOption.TheVariants.{Unbased, Turns, Watch}
+use Rattle.setl_top_options.specs.declared.given.RunOption.TheVariants.{Unbased, Dump, Turns, Watch}
 use Rattle.setl_top_words.specs.Words.{Options, AreOptions, with_option, default_options, Run, Spells}
 use Rattle.setl_top_words.specs.Told.{TellsFaulty}
 use Rattle.setl_top_words.specs.declared.reading.FileKind.{FileKind}
@@ -10,6 +10,7 @@ use Rattle.setl_top_words.specs.declared.reading.FileKind.{FileKind}
 bounded : (xs : List RunOption) (o : Options) → AreOptions xs → o.turns < 2 ^ 63 → (fold with_option o xs).turns < 2 ^ 63
 bounded [] o v h = h
 bounded (Unbased ∷ xs) o v h = bounded xs (record o { based = false }) v.2 h
+bounded (Dump ∷ xs) o v h = bounded xs (record o { dump = true }) v.2 h
 bounded (Turns n ∷ xs) o v h = bounded xs (record o { turns = n }) v.2 v.0
 bounded (Watch a ∷ xs) o v h = bounded xs (record o { watch = Some a }) v.2 h
 

@@ -1,5 +1,5 @@
 -- That the declarations of a program are those of variables of its main program, and that its main body has no parameters.
-use Rattle.std.proofs.Common.{◌≡◌, ◌∙◌, inl, inr, ℕ, zero, suc, nat_eq, bytes_eq, Bool, true, false, ◌&&◌, ◌||◌, List, [], ◌∷◌, map, Option, None, Some, IfSome, if◌then◌else◌, refl, ap, subst, sym, arith}
+use Rattle.std.proofs.Common.{◌≡◌, ◌∙◌, ◌≤◌, inl, inr, ℕ, zero, suc, nat_eq, bytes_eq, Bool, true, false, ◌&&◌, ◌||◌, List, [], ◌∷◌, map, Option, None, Some, IfSome, if◌then◌else◌, refl, ap, subst, sym, arith}
 use Rattle.std.proofs.lemmas.Bool.Decides.{eqb_tells}
 use Rattle.std.specs.Prelude.{slice_get}
 use Rattle.setl_model_runs.specs.Variable.{Variable, Global, Own, Bound, is_variable}
@@ -21,6 +21,7 @@ use Rattle.setl_code.specs.Plain.{plain_code}
 use Rattle.setl_code_marked.specs.Marked.{declared_in, MarksBodies}
 use Rattle.setl_live.specs.Slots.{OnlyMain}
 use Rattle.setl_code_declared.specs.Fitting.{Fitting}
+use Rattle.setl_code_layout.specs.Layout.{NamesWithin}
 use Rattle.setl_code_declared.specs.Laws.{StartsFit}
 use Rattle.setl_store.specs.Standing.{Standing, no_world, started}
 use Rattle.setl_machine_control.specs.Declaring.{Modes, DeclarationTable, modes_of, IsOfMain, AreOfMain, IsBare, Serves}
@@ -95,8 +96,8 @@ only_main p m =
     }
 
 -- a table of these declarations serves the code of a store that was started
-pub serves : StartsFit → (code : RustCode) (declared : List Declared) (d : DeclarationTable) (store : Standing) → d ≡ record { code = code; declared = declared } → store ≡ started 0 code → IsBare (plain_code code) → AreOfMain (map plain_declared declared) → Serves d store
-serves starts code declared d store made begun bare main = record {
+pub serves : StartsFit → (count : ℕ) (code : RustCode) (declared : List Declared) (d : DeclarationTable) (store : Standing) → d ≡ record { code = code; declared = declared } → store ≡ started count code → IsBare (plain_code code) → AreOfMain (map plain_declared declared) → Serves d store
+serves starts count code declared d store made begun bare main = record {
   same = ap (λ (t : DeclarationTable). t.code) made ∙ sym (ap (λ (s : Standing). s.code) begun);
   bare = subst (λ (s : Standing). IsBare (plain_code s.code)) (sym begun) bare;
   main = subst AreOfMain (sym (ap modes_of made)) main;
@@ -107,3 +108,9 @@ serves starts code declared d store made begun bare main = record {
 pub map_counted : {A B : Type 0} (f : A → B) (b : Bool) (xs : List A) → map f (if b then xs else []) ≡ (if b then map f xs else [])
 map_counted f true xs = refl
 map_counted f false xs = refl
+
+-- ---- how many bases there are
+
+-- what names none but so many bases names none but more
+pub within_more : (few more : ℕ) (m : Mode) → few ≤ more → NamesWithin few m → NamesWithin more m
+within_more few more m most within b named = omega (arith, most, within b named)

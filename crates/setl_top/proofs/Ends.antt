@@ -1,5 +1,5 @@
 -- How the parts of a call make its headline.
-use Rattle.std.proofs.Common.{◌≡◌, ◌⊎◌, inl, inr, ◌<◌, ℕ, List, [], ◌∷◌, ◌++◌, length, take, Some, refl, sym, ap, subst}
+use Rattle.std.proofs.Common.{◌≡◌, ◌⊎◌, inl, inr, ◌<◌, ℕ, List, [], ◌∷◌, ◌++◌, ◌∙◌, length, take, Some, if◌then◌else◌, refl, sym, ap, subst, append_assoc}
 use Rattle.std.specs.Io.KnownBytes.{Appends}
 use Rattle.std.proofs.KnownBytes.{Appends-nil}
 use Rattle.setl_io.specs.Files.{IsText}
@@ -40,9 +40,9 @@ use Rattle.setl_top_words.specs.declared.reading.FileKind.TheVariants.{Source, C
 use Rattle.setl_top.specs.code.Tells.{TellsEnd}
 use Rattle.setl_top.specs.Headline.{Job, IsInput, IsToLoad, IsToRun, IsOfProgram, IsToList, IsToBuild, IsToExplain, IsAtRead, TellsRefusal, Answers, faulty_words, refused, code_refused, checked, listed, built, too_long_built, explained, no_fault, stop_told, run_ended, UpToWrite, no_program, at_state, in_print, in_write, in_listing, in_code_file, in_explanation, in_stop, load_failed, read_failed, no_such_watcher, LeavesRest, LoadsAsked, loads_it, loads_none, IsQuiet, at_work, untold, at_end, Ended, ReadFailed, WriteFailed, MemoryFailed, print_failed, out_failed, err_failed, InputLeft, not_read as run_not_read, read_from, Headline}
 use Rattle.setl_top.specs.Outside.{Outside}
-use Rattle.setl_top.specs.Watching.{asked_for, IsThere, no_watcher_line, all_told, reports_of}
-use Rattle.setl_watch.specs.Watches.{Watched, watched}
-use Rattle.setl_top_words.specs.Words.{Options, IsFaulty, Spells, HasFile, watched_by, Command, Run, Check, Code, Build, Explain, TellStop, OneCommand}
+use Rattle.setl_top.specs.Watching.{asked_for, headed, IsThere, no_watcher_line, all_told, reports_of}
+use Rattle.setl_watch.specs.Watches.{Watched, watched, all_reported, told_all}
+use Rattle.setl_top_words.specs.Words.{Options, dumps, IsFaulty, Spells, HasFile, watched_by, Command, Run, Check, Code, Build, Explain, TellStop, OneCommand}
 use Rattle.setl_top_words.specs.Told.{TellsFaulty}
 
 -- the last line of an end was told, or not
@@ -145,12 +145,16 @@ tells_then modes others h k e err mid err' r same heard still told =
     subst (λ ms. TellsEnd ms k e err err' r) same
     (subst (λ x. TellsEnd modes x e err err' r) heard (subst (λ (o : Seen (List ℕ)). TellsEnd modes h e o err' r) still told))
 
+-- what is told where a text stands before the reports
+told_headed : (text : List ℕ) (h : Watched) (line : List ℕ) → all_told (headed text h) ++ line ≡ text ++ all_told h ++ line
+told_headed text h line = ap (λ xs. xs ++ line) (append_assoc text h.reports (all_reported h.watchers))
+
 -- the watchers of a run, before it
 abbrev pub listening : Options → Outside → Watched
 listening asked before = watched (asked_for asked.watch before.watchers) []
 
 abbrev pub job_of : Options → Runnable → List ℕ → Outside → Job
-job_of asked r input before = record { runnable = r; input = input; turns = asked.turns; based = asked.based; watchers = asked_for asked.watch before.watchers }
+job_of asked r input before = record { runnable = r; input = input; turns = asked.turns; based = asked.based; dump = dumps asked; watchers = asked_for asked.watch before.watchers }
 
 module _ (words : List (List ℕ)) (before after : Outside) (heard : Watched) (kind : FileKind) (asked : Options) (name : List ℕ) (ready : Ready) (s : Spells words (Run kind asked name)) (there : IsThere asked.watch before.watchers) (l : LoadedReady kind before.files.held name ready) where
   abbrev from : Streams
@@ -170,7 +174,7 @@ module _ (words : List (List ℕ)) (before after : Outside) (heard : Watched) (k
     name = name;
     bytes = l.bytes;
     spelled = s;
-    runs = (refl, refl, refl, refl);
+    runs = (refl, refl, refl, refl, refl);
     text = l.text;
     holds = l.holds;
     input = known;
@@ -182,8 +186,11 @@ module _ (words : List (List ℕ)) (before after : Outside) (heard : Watched) (k
   run_told : (end : run.End) (status : Status) → status_of end ≡ Some status → RunsTo l.runnable asked from to end → (Ended words before after status → Headline words before after status) → LoadsAsked words before after → (r : Status) → Tells status (all_told heard ++ error_line end) before.error_output after.error_output r → Headline words before after r
   run_told end status how x ends f r t =
       let a = to_be_run x.input x.known in
-      let line : List ℕ = reports_of (job x.input).watchers x.means.events ++ error_line end in
-      let same = subst (λ h. Tells status (all_told h ++ error_line end) before.error_output after.error_output r) x.told t in
+      let dump : List ℕ = if dumps asked then x.means.dump else [] in
+      let reports : Watched = told_all x.means.events (listening asked before) in
+      let line : List ℕ = dump ++ reports_of (job x.input).watchers x.means.events ++ error_line end in
+      let first = subst (λ h. Tells status (all_told h ++ error_line end) before.error_output after.error_output r) x.told t in
+      let same = subst (λ text. Tells status text before.error_output after.error_output r) (told_headed dump reports (error_line end)) first in
       told words before after status x.out line ends (run_ended status x.out line after.input.held (record { job = job x.input; asked = a; end = end; ends = how; means = x.means; leaves = x.left; tells = refl })) x.gained (record { files = f; input = x.input_count; output = x.out_count }) r same
 
   -- it was broken off

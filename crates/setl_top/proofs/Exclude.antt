@@ -1,5 +1,5 @@
 -- Which answers exclude which.
-use Rattle.std.proofs.Common.{◌≡◌, ◌≤◌, ◌⊎◌, ◌↔◌, ◌∙◌, ◌^◌, ◌-◌, inl, inr, ℕ, zero, suc, Bool, true, List, [], ◌∷◌, ◌++◌, Option, Some, refl, sym, ap, ap₂, subst, arith}
+use Rattle.std.proofs.Common.{◌≡◌, ◌≤◌, ◌⊎◌, ◌↔◌, ◌∙◌, ◌^◌, ◌-◌, inl, inr, ℕ, zero, suc, Bool, true, List, [], ◌∷◌, ◌++◌, Option, Some, if◌then◌else◌, refl, sym, ap, ap₂, subst, arith}
 use Rattle.std.specs.Io.KnownBytes.{Appends}
 use Rattle.setl_io.specs.Faults.{one_more}
 use Rattle.setl_io.specs.Files.{IsText}
@@ -9,6 +9,8 @@ use Rattle.setl_model_runs.specs.Events as events
 use Rattle.setl_model_runs.specs.Run.{Machine, Test, State, Next, Goes, Ends, and_then, run, step}
 use Rattle.setl_model.specs.Laws.{OneMeaning}
 use Rattle.setl_model.specs.Core.{Core}
+use Rattle.setl_model.specs.Dump.{layout}
+use Rattle.setl_model.specs.Entered.{entered}
 use Rattle.setl_model.specs.Means.{Means, first}
 use Rattle.setl_model.specs.Step.{language, test_of}
 use Rattle.setl_program.specs.Program.{Program}
@@ -37,10 +39,11 @@ use Rattle.setl_top_words.specs.declared.reading.FileKind.TheVariants.{Source, C
 use Rattle.setl_code.specs.CodeCore.{CodeCore}
 use Rattle.setl_code.specs.CodeMeans.{CodeMeans, code_first}
 use Rattle.setl_code.specs.Machine.{machine}
+use Rattle.setl_code_layout.specs.Layout.{code_layout}
 use Rattle.setl_top_images.specs.CodeFiles.{IsFlawed, flaw_line}
 use Rattle.setl_top_images.specs.Laws.{OneImage, OneFlaw, NotCodeAndFlawed}
 use Rattle.setl_top.specs.Built.{CodeRefusal}
-use Rattle.setl_top.specs.Runnable.{Runnable, OfProgram, OfCode, of_image, Holds, Meant}
+use Rattle.setl_top.specs.Runnable.{Runnable, OfProgram, OfCode, of_tree, of_image, Holds, Meant}
 use Rattle.setl_top.proofs.OneReason.{FrontLaws, one_reason, one_program_tree, not_refused}
 
 -- one fault of the error output was counted at what was being told, and one or none at the line of the fault
@@ -108,18 +111,18 @@ module _ {C : Type 0} (m : Machine C) (test : Test) where
           let other : g ≡ f = cc in
           (sym one ∙ other, sym first ∙ second)
 
--- so what is run has one output, one end and one list of events
-one_meant : (r : Runnable) (input : List ℕ) (turns : ℕ) (based : Bool) (o o' : List ℕ) (e e' : End) (m : Meant r input turns based o e) (n : Meant r input turns based o' e') → (o ≡ o') × (e ≡ e') × (m.events ≡ n.events)
-one_meant (OfProgram p) input turns based o o' e e' m n =
+-- so what is run has one output, one end, one list of events and one dump
+one_meant : (r : Runnable) (input : List ℕ) (turns : ℕ) (based : Bool) (o o' : List ℕ) (e e' : End) (m : Meant r input turns based o e) (n : Meant r input turns based o' e') → (o ≡ o') × (e ≡ e') × (m.events ≡ n.events) × (m.dump ≡ n.dump)
+one_meant (OfProgram names p) input turns based o o' e e' m n =
     let a : Means p input turns based o e = m.so.0 in
     let b : Means p input turns based o' e' = n.so.0 in
     let same = same_end (language p) (test_of p.modes based) a.steps b.steps (first p input turns) a.last b.last e e' a.ends b.ends in
-    (sym a.written ∙ ap (λ (s : State Core). s.out) same.1 ∙ b.written, same.0, m.so.1 ∙ ap (λ (s : State Core). s.events) same.1 ∙ sym n.so.1)
-one_meant (OfCode c modes) input turns based o o' e e' m n =
+    (sym a.written ∙ ap (λ (s : State Core). s.out) same.1 ∙ b.written, same.0, m.so.1 ∙ ap (λ (s : State Core). s.events) same.1 ∙ sym n.so.1, m.so.3 ∙ ap (λ (s : State Core). layout names p.modes s) same.1 ∙ sym n.so.3)
+one_meant (OfCode names c modes) input turns based o o' e e' m n =
     let a : CodeMeans c modes input turns based o e = m.so.0 in
     let b : CodeMeans c modes input turns based o' e' = n.so.0 in
     let same = same_end (machine c) (test_of modes based) a.steps b.steps (code_first c input turns) a.last b.last e e' a.ends b.ends in
-    (sym a.written ∙ ap (λ (s : State CodeCore). s.out) same.1 ∙ b.written, same.0, m.so.1 ∙ ap (λ (s : State CodeCore). s.events) same.1 ∙ sym n.so.1)
+    (sym a.written ∙ ap (λ (s : State CodeCore). s.out) same.1 ∙ b.written, same.0, m.so.1 ∙ ap (λ (s : State CodeCore). s.events) same.1 ∙ sym n.so.1, m.so.3 ∙ ap (λ (s : State CodeCore). code_layout names modes (λ b. entered modes b s.events) s.core) same.1 ∙ sym n.so.3)
 
 -- the input of the trial that a command asks for, and its line
 abbrev input_for : Command → List ℕ
@@ -169,21 +172,21 @@ module _ (one_command : OneCommand) where
   one_file (Trial a b) n m f g = absurd f
 
   -- a run's file is its command's
-  run_file : (c : Command) (kind : FileKind) (n : List ℕ) (turns : ℕ) (based : Bool) → RunsFile c kind n turns based → HasFile c n
-  run_file (Run k o a) kind n turns based h = h.1
-  run_file (Check a) kind n turns based h = absurd h
-  run_file (Code a) kind n turns based h = absurd h
-  run_file (Build a) kind n turns based h = absurd h
-  run_file (Advise a) kind n turns based h = absurd h
-  run_file (Explain a) kind n turns based h = absurd h
-  run_file (TellStop k) kind n turns based h = absurd h
-  run_file (Debug b a) kind n turns based h = absurd h
-  run_file (Trial a b) kind n turns based h = absurd h
+  run_file : (c : Command) (kind : FileKind) (n : List ℕ) (turns : ℕ) (based dump : Bool) → RunsFile c kind n turns based dump → HasFile c n
+  run_file (Run k o a) kind n turns based dump h = h.1
+  run_file (Check a) kind n turns based dump h = absurd h
+  run_file (Code a) kind n turns based dump h = absurd h
+  run_file (Build a) kind n turns based dump h = absurd h
+  run_file (Advise a) kind n turns based dump h = absurd h
+  run_file (Explain a) kind n turns based dump h = absurd h
+  run_file (TellStop k) kind n turns based dump h = absurd h
+  run_file (Debug b a) kind n turns based dump h = absurd h
+  run_file (Trial a b) kind n turns based dump h = absurd h
 
   -- what is to be run is what the command runs
-  pub runs_so : (words : List (List ℕ)) (before : Outside) (job : Job) (c : Command) (a : IsToRun words before job) → Spells words c → RunsFile c a.kind a.name job.turns job.based
+  pub runs_so : (words : List (List ℕ)) (before : Outside) (job : Job) (c : Command) (a : IsToRun words before job) → Spells words c → RunsFile c a.kind a.name job.turns job.based job.dump
   runs_so words before job c a s =
-      subst (λ d. RunsFile d a.kind a.name job.turns job.based) (one_command words a.command c a.spelled s) a.runs
+      subst (λ d. RunsFile d a.kind a.name job.turns job.based job.dump) (one_command words a.command c a.spelled s) a.runs
 
   -- a command whose watcher is there isn't one whose watcher isn't
   pub not_there : (words : List (List ℕ)) (before : Outside) (c d : Command) → Spells words c → Spells words d → (IsThere (watched_by c) before.watchers → ⊥) → IsThere (watched_by d) before.watchers → ⊥
@@ -288,29 +291,29 @@ module _ (one_command : OneCommand) where
   -- ---- refusals
 
   -- a source that is refused isn't run
-  refused_not_held : FrontLaws → (c : Command) (kind : FileKind) (n bytes line : List ℕ) (turns : ℕ) (based : Bool) (r : Runnable) → TellsRefusal c → RunsFile c kind n turns based → Holds kind bytes r → Refusal bytes line → ⊥
-  refused_not_held laws (Run Source o a) kind n bytes line turns based r tells runs holds why =
+  refused_not_held : FrontLaws → (c : Command) (kind : FileKind) (n bytes line : List ℕ) (turns : ℕ) (based dump : Bool) (r : Runnable) → TellsRefusal c → RunsFile c kind n turns based dump → Holds kind bytes r → Refusal bytes line → ⊥
+  refused_not_held laws (Run Source o a) kind n bytes line turns based dump r tells runs holds why =
       let h = subst (λ k. Holds k bytes r) runs.0 holds in
-      not_refused laws bytes why.reason why.refused h.1.tree h.1.is_program
-  refused_not_held laws (Run CodeFile o a) kind n bytes line turns based r tells runs holds why = tells
-  refused_not_held laws (Check a) kind n bytes line turns based r tells runs holds why = runs
-  refused_not_held laws (Code a) kind n bytes line turns based r tells runs holds why = runs
-  refused_not_held laws (Build a) kind n bytes line turns based r tells runs holds why = runs
-  refused_not_held laws (Advise a) kind n bytes line turns based r tells runs holds why = runs
-  refused_not_held laws (Explain a) kind n bytes line turns based r tells runs holds why = runs
-  refused_not_held laws (TellStop k) kind n bytes line turns based r tells runs holds why = runs
-  refused_not_held laws (Debug b a) kind n bytes line turns based r tells runs holds why = runs
-  refused_not_held laws (Trial a b) kind n bytes line turns based r tells runs holds why = runs
+      not_refused laws bytes why.reason why.refused h.0 h.1
+  refused_not_held laws (Run CodeFile o a) kind n bytes line turns based dump r tells runs holds why = tells
+  refused_not_held laws (Check a) kind n bytes line turns based dump r tells runs holds why = runs
+  refused_not_held laws (Code a) kind n bytes line turns based dump r tells runs holds why = runs
+  refused_not_held laws (Build a) kind n bytes line turns based dump r tells runs holds why = runs
+  refused_not_held laws (Advise a) kind n bytes line turns based dump r tells runs holds why = runs
+  refused_not_held laws (Explain a) kind n bytes line turns based dump r tells runs holds why = runs
+  refused_not_held laws (TellStop k) kind n bytes line turns based dump r tells runs holds why = runs
+  refused_not_held laws (Debug b a) kind n bytes line turns based dump r tells runs holds why = runs
+  refused_not_held laws (Trial a b) kind n bytes line turns based dump r tells runs holds why = runs
 
   refused_not_run : FrontLaws → (words : List (List ℕ)) (before : Outside) (texts : List ℕ → Option (List ℕ)) → TellsTexts before texts → (job : Job) → IsToRun words before job → (c : Command) (name source line : List ℕ) → Spells words c → HasFile c name → TellsRefusal c → IsText before.files.held name source → Refusal source line → ⊥
   refused_not_run laws words before texts t job a c name source line s f tells h r =
-      let sources = one_source words before texts t a.command c a.name name a.bytes source a.spelled (run_file a.command a.kind a.name job.turns job.based a.runs) a.text s f h in
-      refused_not_held laws c a.kind a.name source line job.turns job.based job.runnable tells (runs_so words before job c a s) (subst (λ x. Holds a.kind x job.runnable) sources a.holds) r
+      let sources = one_source words before texts t a.command c a.name name a.bytes source a.spelled (run_file a.command a.kind a.name job.turns job.based job.dump a.runs) a.text s f h in
+      refused_not_held laws c a.kind a.name source line job.turns job.based job.dump job.runnable tells (runs_so words before job c a s) (subst (λ x. Holds a.kind x job.runnable) sources a.holds) r
 
   -- nor are bytes that are no code file
   code_not_run : NotCodeAndFlawed → (words : List (List ℕ)) (before : Outside) (texts : List ℕ → Option (List ℕ)) → TellsTexts before texts → (job : Job) → IsToRun words before job → (o : Options) (name bytes line : List ℕ) → Spells words (Run CodeFile o name) → IsText before.files.held name bytes → CodeRefusal bytes line → ⊥
   code_not_run not_both words before texts t job a o name bytes line s h r =
-      let sources = one_source words before texts t a.command (Run CodeFile o name) a.name name a.bytes bytes a.spelled (run_file a.command a.kind a.name job.turns job.based a.runs) a.text s refl h in
+      let sources = one_source words before texts t a.command (Run CodeFile o name) a.name name a.bytes bytes a.spelled (run_file a.command a.kind a.name job.turns job.based job.dump a.runs) a.text s refl h in
       let runs = runs_so words before job (Run CodeFile o name) a s in
       let holds = subst (λ x. Holds CodeFile x job.runnable) sources (subst (λ k. Holds k a.bytes job.runnable) runs.0 a.holds) in
       not_both bytes holds.0 r.flaw holds.1 r.flawed
@@ -491,40 +494,41 @@ module _ (one_command : OneCommand) where
       let q : input ≡ b = subst (λ x. IsInput x b) t k in
       sym p ∙ q
 
-  one_turns : (c : Command) (k l : FileKind) (n m : List ℕ) (s t : ℕ) (a b : Bool) → RunsFile c k n s a → RunsFile c l m t b → (k ≡ l) × (s ≡ t) × (a ≡ b)
-  one_turns (Run d o x) k l n m s t a b h i = (h.0 ∙ sym i.0, h.2 ∙ sym i.2, h.3 ∙ sym i.3)
-  one_turns (Check x) k l n m s t a b h i = absurd h
-  one_turns (Code x) k l n m s t a b h i = absurd h
-  one_turns (Build x) k l n m s t a b h i = absurd h
-  one_turns (Advise x) k l n m s t a b h i = absurd h
-  one_turns (Explain x) k l n m s t a b h i = absurd h
-  one_turns (TellStop x) k l n m s t a b h i = absurd h
-  one_turns (Debug d x) k l n m s t a b h i = absurd h
-  one_turns (Trial x y) k l n m s t a b h i = absurd h
+  one_turns : (c : Command) (k l : FileKind) (n m : List ℕ) (s t : ℕ) (a b d e : Bool) → RunsFile c k n s a d → RunsFile c l m t b e → (k ≡ l) × (s ≡ t) × (a ≡ b) × (d ≡ e)
+  one_turns (Run f o x) k l n m s t a b d e h i = (h.0 ∙ sym i.0, h.2 ∙ sym i.2, h.3 ∙ sym i.3, h.4 ∙ sym i.4)
+  one_turns (Check x) k l n m s t a b d e h i = absurd h
+  one_turns (Code x) k l n m s t a b d e h i = absurd h
+  one_turns (Build x) k l n m s t a b d e h i = absurd h
+  one_turns (Advise x) k l n m s t a b d e h i = absurd h
+  one_turns (Explain x) k l n m s t a b d e h i = absurd h
+  one_turns (TellStop x) k l n m s t a b d e h i = absurd h
+  one_turns (Debug f x) k l n m s t a b d e h i = absurd h
+  one_turns (Trial x y) k l n m s t a b d e h i = absurd h
 
   -- bytes hold one thing
   one_runnable : FrontLaws → OneImage → (kind : FileKind) (bytes : List ℕ) (r q : Runnable) → Holds kind bytes r → Holds kind bytes q → r ≡ q
-  one_runnable laws images Source bytes r q h k = h.2 ∙ ap OfProgram (one_program laws bytes h.0 k.0 h.1 k.1) ∙ sym k.2
+  one_runnable laws images Source bytes r q h k = h.2 ∙ ap of_tree (one_program_tree laws bytes h.0 k.0 h.1 k.1) ∙ sym k.2
   one_runnable laws images CodeFile bytes r q h k = h.2 ∙ ap of_image (images bytes h.0 k.0 h.1 k.1) ∙ sym k.2
 
   -- the words ask for one run
   one_job : FrontLaws → OneImage → (words : List (List ℕ)) (before : Outside) (texts : List ℕ → Option (List ℕ)) (input : List ℕ) → TellsTexts before texts → before.input.held ≡ Some input → (j k : Job) → IsToRun words before j → IsToRun words before k → j ≡ k
   one_job laws images words before texts input t i j k a b =
-      let f = run_file a.command a.kind a.name j.turns j.based a.runs in
-      let g = run_file b.command b.kind b.name k.turns k.based b.runs in
+      let f = run_file a.command a.kind a.name j.turns j.based j.dump a.runs in
+      let g = run_file b.command b.kind b.name k.turns k.based k.dump b.runs in
       let sources = one_source words before texts t a.command b.command a.name b.name a.bytes b.bytes a.spelled f a.text b.spelled g b.text in
       let left = one_input before input i j.input k.input a.input b.input in
-      let runs = subst (λ c. RunsFile c b.kind b.name k.turns k.based) (one_command words b.command a.command b.spelled a.spelled) b.runs in
-      let bounds = one_turns a.command a.kind b.kind a.name b.name j.turns k.turns j.based k.based a.runs runs in
+      let runs = subst (λ c. RunsFile c b.kind b.name k.turns k.based k.dump) (one_command words b.command a.command b.spelled a.spelled) b.runs in
+      let bounds = one_turns a.command a.kind b.kind a.name b.name j.turns k.turns j.based k.based j.dump k.dump a.runs runs in
       let here : Holds b.kind b.bytes j.runnable = subst (λ d. Holds d b.bytes j.runnable) bounds.0 (subst (λ y. Holds a.kind y j.runnable) sources a.holds) in
       let runnable = one_runnable laws images b.kind b.bytes j.runnable k.runnable here b.holds in
       let watchers : j.watchers ≡ k.watchers = a.watched ∙ ap (λ c. asked_for (watched_by c) before.watchers) (one_command words a.command b.command a.spelled b.spelled) ∙ sym b.watched in
-      λ x. record { runnable = runnable x; input = left x; turns = bounds.1 x; based = bounds.2 x; watchers = watchers x }
+      λ x. record { runnable = runnable x; input = left x; turns = bounds.1 x; based = bounds.2 x; dump = bounds.3 x; watchers = watchers x }
 
-  -- the run that is asked for ends so, and these are its events
-  record Ended (job : Job) (out : List ℕ) (end : End) (events : List Event) : Type 0 where
+  -- the run that is asked for ends so, and these are its events and its dump
+  record Ended (job : Job) (out : List ℕ) (end : End) (events : List Event) (dump : List ℕ) : Type 0 where
     pub means : Meant job.runnable job.input job.turns job.based out end
     pub told : means.events ≡ events
+    pub dumped : means.dump ≡ dump
 
   pub ends_only : FrontLaws → OneImage → NotCodeAndFlawed → EndsExactly
   ends_only laws images not_both words before input job said end _ _ _ _ t i a m (faulty_words told n tells) = absurd (n a.command a.spelled)
@@ -546,11 +550,11 @@ module _ (one_command : OneCommand) where
   ends_only laws images not_both words before input job said end _ _ _ _ t i a m (trial_ended status l last b) = absurd (runs_so words before job (Trial b.tried.seed b.tried.nodes) a b.tried.spelled)
   ends_only laws images not_both words before input job said end _ _ _ _ t i a m (run_ended status out err left r) =
       let same = one_job laws images words before t.0 input t.1 i r.job job r.asked a in
-      let moved = subst (λ (j : Job). Ended j out r.end r.means.events) same (record { means = r.means; told = refl }) in
+      let moved = subst (λ (j : Job). Ended j out r.end r.means.events r.means.dump) same (record { means = r.means; told = refl; dumped = refl }) in
       let both = one_meant job.runnable job.input job.turns job.based out said r.end end moved.means m in (
         sym (ap status_of both.1) ∙ r.ends,
         both.0,
-        r.tells ∙ (λ x. reports_of ((ap (λ (j : Job). j.watchers) same) x) ((sym moved.told ∙ both.2) x) ++ error_line (both.1 x)),
+        r.tells ∙ (λ x. (if (ap (λ (j : Job). j.dump) same) x then (sym moved.dumped ∙ both.3) x else []) ++ reports_of ((ap (λ (j : Job). j.watchers) same) x) ((sym moved.told ∙ both.2) x) ++ error_line (both.1 x)),
       )
 
   -- ---- trials

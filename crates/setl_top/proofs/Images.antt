@@ -11,11 +11,15 @@ use Rattle.setl_program.specs.Program.{Program}
 use Rattle.setl_program.specs.ProgramOf.{main_scope, declaration_of, program_of}
 use Rattle.setl_program.specs.Scope as scope
 use Rattle.setl_program.specs.Formed.{Formed}
+use Rattle.setl_model.specs.Dump.{layout}
+use Rattle.setl_model.specs.Entered.{entered}
 use Rattle.setl_model.specs.Means.{Means}
 use Rattle.setl_tree.specs.declared.tree.Tree.{Tree}
 use Rattle.setl_code.specs.Code.{Code}
 use Rattle.setl_code.specs.CodeMeans.{CodeMeans}
 use Rattle.setl_code.specs.Plain.{plain_code}
+use Rattle.setl_code_layout.specs.Claims.{MarkedCodeEndsWithLayout}
+use Rattle.setl_code_layout.specs.Layout.{code_layout}
 use Rattle.setl_code_marked.specs.Marked.{declared_in}
 use Rattle.setl_code_simulation.specs.Claims.{Ended}
 use Rattle.setl_code_marked_simulation.specs.Claims.{MarkedEndsAlike, MarkedEndsInTheSameState, RunEnds}
@@ -81,31 +85,33 @@ built_of t p i items (Err e) is marked bases vars h = h
 
 -- ---- runs
 
-module _ (ends : MarkedEndsAlike) (last : MarkedEndsInTheSameState) (p : Program) (formed : Formed p) (c : Code) (marked : IsMarked p c) where
-  program_alike : RunsAlike (OfProgram p) (OfCode c p.modes)
+module _ (ends : MarkedEndsAlike) (last : MarkedEndsInTheSameState) (laid : MarkedCodeEndsWithLayout) (names : List (List ℕ)) (p : Program) (formed : Formed p) (c : Code) (marked : IsMarked p c) where
+  program_alike : RunsAlike (OfProgram names p) (OfCode names c p.modes)
   program_alike input turns based out e m =
       let means : Means p input turns based out e = m.so.0 in
       let told : Ended p input turns based out means.last.events e = record { steps = means.steps; last = means.last; ends = means.ends; written = means.written; told = refl } in
       let code : RunEnds c p input turns based out means.last.events e = (ends p formed (declared_in p.modes) c marked input turns based out means.last.events e).0 told in
       let meant : CodeMeans c p.modes input turns based out e = record { steps = code.steps; last = code.last; ends = code.ends; written = code.written } in
       let same = last p formed (declared_in p.modes) c marked input turns based out out e e means meant in
-      (record { events = code.last.events; left = code.last.core.world.input; so = (meant, refl, refl) }, code.told ∙ sym m.so.1, ap (λ w. w.input) same.core.world ∙ sym m.so.2)
+      let dump : List ℕ = code_layout names p.modes (λ b. entered p.modes b code.last.events) code.last.core in
+      (record { events = code.last.events; left = code.last.core.world.input; dump = dump; so = (meant, refl, refl, refl) }, code.told ∙ sym m.so.1, ap (λ w. w.input) same.core.world ∙ sym m.so.2, sym (((laid p formed c marked input turns based out e meant).same means).dump names) ∙ sym m.so.3)
 
-  code_alike : RunsAlike (OfCode c p.modes) (OfProgram p)
+  code_alike : RunsAlike (OfCode names c p.modes) (OfProgram names p)
   code_alike input turns based out e m =
       let meant : CodeMeans c p.modes input turns based out e = m.so.0 in
       let told : RunEnds c p input turns based out meant.last.events e = record { steps = meant.steps; last = meant.last; ends = meant.ends; written = meant.written; told = refl } in
       let whole : Ended p input turns based out meant.last.events e = (ends p formed (declared_in p.modes) c marked input turns based out meant.last.events e).1 told in
       let means : Means p input turns based out e = record { steps = whole.steps; last = whole.last; ends = whole.ends; written = whole.written } in
       let same = last p formed (declared_in p.modes) c marked input turns based out out e e means meant in
-      (record { events = whole.last.events; left = whole.last.core.shared.world.input; so = (means, refl, refl) }, whole.told ∙ sym m.so.1, ap (λ w. w.input) (sym same.core.world) ∙ sym m.so.2)
+      (record { events = whole.last.events; left = whole.last.core.shared.world.input; dump = layout names p.modes whole.last; so = (means, refl, refl, refl) }, whole.told ∙ sym m.so.1, ap (λ w. w.input) (sym same.core.world) ∙ sym m.so.2, ((laid p formed c marked input turns based out e meant).same means).dump names ∙ sym m.so.3)
 
-pub files_alike : OneImage → AcceptedIsFormed → MarkedEndsAlike → MarkedEndsInTheSameState → CodeFilesRunAlike
-files_alike one law ends last source bytes tree i is built file =
+pub files_alike : OneImage → AcceptedIsFormed → MarkedEndsAlike → MarkedEndsInTheSameState → MarkedCodeEndsWithLayout → CodeFilesRunAlike
+files_alike one law ends last laid source bytes tree i is built file =
     let p = program_of tree in
     let c = plain_code built.whole.code in
     let formed : Formed p = law tree (is_accepted source tree is) in
-    let there : OfCode c p.modes ≡ of_image i = ap (OfCode c) (sym built.of_tree.declared) ∙ ap of_image (one bytes built.whole i built.file file) in (
-      subst (λ s. RunsAlike (OfProgram p) s) there (program_alike ends last p formed c built.of_tree.marked),
-      subst (λ s. RunsAlike s (OfProgram p)) there (code_alike ends last p formed c built.of_tree.marked),
+    let names : List (List ℕ) = map (λ b. b.0) (bases_of tree.modes) in
+    let there : OfCode names c p.modes ≡ of_image i = ap₂ (λ bs ms. OfCode (map (λ b. b.0) bs) c ms) (sym built.of_tree.bases) (sym built.of_tree.declared) ∙ ap of_image (one bytes built.whole i built.file file) in (
+      subst (λ s. RunsAlike (OfProgram names p) s) there (program_alike ends last laid names p formed c built.of_tree.marked),
+      subst (λ s. RunsAlike s (OfProgram names p)) there (code_alike ends last laid names p formed c built.of_tree.marked),
     )

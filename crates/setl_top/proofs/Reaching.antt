@@ -7,12 +7,14 @@ use Rattle.setl_model_runs.specs.Events.{End, Stopped, Unfit, Stuck}
 use Rattle.setl_model_runs.specs.Run.{Store, Move, Moves, Halts, State, Next, Goes, Ends, Machine, Test, if_fits, store_all, stored, settle, step, and_then, run}
 use Rattle.setl_program.specs.Program.{Program}
 use Rattle.setl_program.specs.Formed.{Formed}
+use Rattle.setl_model.specs.Dump.{layout}
 use Rattle.setl_model.specs.Ending.{NoneIsStuck}
 use Rattle.setl_model.specs.Means.{Means, HasPrint}
 use Rattle.setl_code.specs.Code.{Code, PrintTop}
 use Rattle.setl_code.specs.CodeCore.{Operand, Pops, popped, CodeCore}
 use Rattle.setl_code.specs.CodeMeans.{CodeMeans}
 use Rattle.setl_code.specs.Machine.{machine, fetch, do_step, on_popped, print_values}
+use Rattle.setl_code_layout.specs.Claims.{MarkedCodeEndsWithLayout}
 use Rattle.setl_code_simulation.specs.Claims.{Ended}
 use Rattle.setl_machine_control.specs.Answers.{said, start}
 use Rattle.setl_machine.specs.Outcome.{AtPrint, AtRead}
@@ -82,26 +84,27 @@ pub record CodeLaws : Type 0 where
   pub reads : MarkedReadsWhereMeant
   pub prints : MarkedPrintsWhereMeant
   pub not_stuck : NoneIsStuck
+  pub laid : MarkedCodeEndsWithLayout
 
-module _ (laws : CodeLaws) (p : Program) (formed : Formed p) (c : Code) (marked : IsMarked p c) (asked : Options) (input : List ℕ) where
-  comes : (s : State CodeCore) → Came (OfProgram p) c asked input s → MarkedReaches c p input asked.turns asked.based s
-  comes s h = (h.0, as_meant (OfProgram p) c asked input h.0 (Goes s) h.1)
+module _ (laws : CodeLaws) (names : List (List ℕ)) (p : Program) (formed : Formed p) (c : Code) (marked : IsMarked p c) (asked : Options) (input : List ℕ) where
+  comes : (s : State CodeCore) → Came (OfProgram names p) c asked input s → MarkedReaches c p input asked.turns asked.based s
+  comes s h = (h.0, as_meant (OfProgram names p) c asked input h.0 (Goes s) h.1)
 
-  at_state : (s : State CodeCore) → Came (OfProgram p) c asked input s → AtState p input asked.turns asked.based s.out
+  at_state : (s : State CodeCore) → Came (OfProgram names p) c asked input s → AtState p input asked.turns asked.based s.out
   at_state s came =
       let r = laws.reached p formed (declared_in p.modes) c marked input asked.turns asked.based s (comes s came) in
       record { state = r.state; reached = r.reached; printed = r.same.out }
 
-  at_read : (s : State CodeCore) → Came (OfProgram p) c asked input s → AtRead c s.core → moments.AtRead p input asked.turns asked.based s.out
+  at_read : (s : State CodeCore) → Came (OfProgram names p) c asked input s → AtRead c s.core → moments.AtRead p input asked.turns asked.based s.out
   at_read s came next =
       let r = laws.reads p formed (declared_in p.modes) c marked input asked.turns asked.based s next.0 (comes s came) next.1 in
       record { state = r.there.state; reached = r.there.reached; printed = r.there.same.out; in_hand = r.in_hand }
 
   -- the world is the same there
-  at_print : (s : State CodeCore) → Came (OfProgram p) c asked input s → AtPrint c s.core → (line : List ℕ) → line ≡ said (step (machine c) (Taken (OfProgram p) c asked input) (start s.core)) → PrintsThere (OfProgram p) c asked input s line
+  at_print : (s : State CodeCore) → Came (OfProgram names p) c asked input s → AtPrint c s.core → (line : List ℕ) → line ≡ said (step (machine c) (Taken (OfProgram names p) c asked input) (start s.core)) → PrintsThere (OfProgram names p) c asked input s line
   at_print s came next line says =
       let r = laws.prints p formed (declared_in p.modes) c marked input asked.turns asked.based s next.0 next.1 (comes s came) next.2 in
-      let text = said_at_print c (Taken (OfProgram p) c asked input) s.core next.0 next.1 r.values r.others next.2 r.operands in
+      let text = said_at_print c (Taken (OfProgram names p) c asked input) s.core next.0 next.1 r.values r.others next.2 r.operands in
       record {
         still = r.there.state.core.shared.world.input;
         at = (
@@ -116,24 +119,26 @@ module _ (laws : CodeLaws) (p : Program) (formed : Formed p) (c : Code) (marked 
         same = ap (λ w. w.input) r.there.same.core.world;
       }
 
-  at_end : (n : ℕ) (e : End) (s : State CodeCore) → coded (OfProgram p) c asked input n ≡ Ends e s → EndsThere (OfProgram p) c asked input s e
+  at_end : (n : ℕ) (e : End) (s : State CodeCore) → coded (OfProgram names p) c asked input n ≡ Ends e s → EndsThere (OfProgram names p) c asked input s e
   at_end n e s is =
-      let ends = as_meant (OfProgram p) c asked input n (Ends e s) is in
+      let ends = as_meant (OfProgram names p) c asked input n (Ends e s) is in
       let code : CodeMeans c p.modes input asked.turns asked.based s.out e = record { steps = n; last = s; ends = ends; written = refl } in
       let meant : Ended p input asked.turns asked.based s.out s.events e = (laws.ends p formed (declared_in p.modes) c marked input asked.turns asked.based s.out s.events e).1 (record { steps = n; last = s; ends = ends; written = refl; told = refl }) in
       let means : Means p input asked.turns asked.based s.out e = record { steps = meant.steps; last = meant.last; ends = meant.ends; written = meant.written } in
       let same = laws.last p formed (declared_in p.modes) c marked input asked.turns asked.based s.out s.out e e means code in
+      let laid = laws.laid p formed c marked input asked.turns asked.based s.out e code in
       record {
-        means = record { events = meant.last.events; left = meant.last.core.shared.world.input; so = (means, refl, refl) };
+        means = record { events = meant.last.events; left = meant.last.core.shared.world.input; dump = layout names p.modes meant.last; so = (means, refl, refl, refl) };
         events = meant.told;
         left = ap (λ w. w.input) (sym same.core.world);
+        dump = (laid.same means).dump names;
       }
 
   -- no run is stuck
-  never_stuck : (n : ℕ) (s : State CodeCore) → coded (OfProgram p) c asked input n ≡ Ends Stuck s → ⊥
+  never_stuck : (n : ℕ) (s : State CodeCore) → coded (OfProgram names p) c asked input n ≡ Ends Stuck s → ⊥
   never_stuck n s is =
-      let code : CodeMeans c p.modes input asked.turns asked.based s.out Stuck = record { steps = n; last = s; ends = as_meant (OfProgram p) c asked input n (Ends Stuck s) is; written = refl } in
+      let code : CodeMeans c p.modes input asked.turns asked.based s.out Stuck = record { steps = n; last = s; ends = as_meant (OfProgram names p) c asked input n (Ends Stuck s) is; written = refl } in
       laws.not_stuck p formed input asked.turns asked.based s.out ((laws.means p formed (declared_in p.modes) c marked input asked.turns asked.based s.out Stuck).1 code)
 
-  pub program_stands : Stands (OfProgram p) c asked input
+  pub program_stands : Stands (OfProgram names p) c asked input
   program_stands = record { state = at_state; read = at_read; print = λ s came next line says some. at_print s came next line says; ends = at_end; never = never_stuck }

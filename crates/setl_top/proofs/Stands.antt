@@ -2,15 +2,17 @@
 use Rattle.std.proofs.Common.{◌≡◌, ◌<◌, ℕ, Bool, true, false, List, [], length, if◌then◌else◌, refl, subst}
 use Rattle.setl_model_runs.specs.Events as run
 use Rattle.setl_model_runs.specs.Run.{State, Next, Goes, Ends, Test, run as runs, step}
+use Rattle.setl_model.specs.Entered.{entered}
 use Rattle.setl_model.specs.Step.{test_of}
 use Rattle.setl_code.specs.Code.{Code}
 use Rattle.setl_code.specs.CodeCore.{CodeCore}
 use Rattle.setl_code.specs.CodeMeans.{code_first}
 use Rattle.setl_code.specs.Machine.{machine}
+use Rattle.setl_code_layout.specs.Layout.{code_layout}
 use Rattle.setl_machine_control.specs.Answers.{said, start}
 use Rattle.setl_machine_control.specs.Declaring.{Modes, tested}
 use Rattle.setl_machine.specs.Outcome.{AtPrint, AtRead}
-use Rattle.setl_top.specs.Runnable.{Runnable, declared_by, Meant, IsAt, Printing, Reading}
+use Rattle.setl_top.specs.Runnable.{Runnable, bases_by, declared_by, Meant, IsAt, Printing, Reading}
 use Rattle.setl_top.specs.code.Runs.{counted}
 use Rattle.setl_top_words.specs.Words.{Options}
 
@@ -46,6 +48,7 @@ module _ (r : Runnable) (c : Code) (asked : Options) (input : List ℕ) where
     pub means : Meant r input asked.turns asked.based s.out e
     pub events : means.events ≡ s.events
     pub left : means.left ≡ s.core.world.input
+    pub dump : means.dump ≡ code_layout (bases_by r) (declared_by r) (λ b. entered (declared_by r) b s.events) s.core
 
   -- The states of the code's run are states of what is run, its reads and prints are there, and it ends as that does.
   pub record Stands : Type 0 where

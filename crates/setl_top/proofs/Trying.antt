@@ -29,8 +29,8 @@ use Rattle.setl_top.proofs.Ends.{no_file, told_alone, starved, written_ends}
 
 -- ---- runs in memory
 
-run_so : (program : Program) (based : Bool) (s t : Streams) (input printed : List ℕ) → s.input.held ≡ Some input → s.output.held ≡ Some [] → t.output.held ≡ Some printed → (e : run.End) → RunsTo (OfProgram program) (trial_options based) s t e → Means program input (2 ^ 63 - 1) based printed e
-run_so program based s t input printed i o n e x =
+run_so : (names : List (List ℕ)) (program : Program) (based : Bool) (s t : Streams) (input printed : List ℕ) → s.input.held ≡ Some input → s.output.held ≡ Some [] → t.output.held ≡ Some printed → (e : run.End) → RunsTo (OfProgram names program) (trial_options based) s t e → Means program input (2 ^ 63 - 1) based printed e
+run_so names program based s t input printed i o n e x =
     let known : input ≡ x.input = subst (λ (k : Option (List ℕ)). IsInput k x.input) i x.known in
     let gained : printed ≡ [] ++ x.out = subst (λ (b : Option (List ℕ)). Appends (Some []) b x.out) n (subst (λ (a : Option (List ℕ)). Appends a t.output.held x.out) o x.gained) in
     subst (λ (k : List ℕ). Means program k (2 ^ 63 - 1) based printed e) (sym known)
@@ -42,16 +42,16 @@ no_rise before now b n h =
     omega (arith, rose)
 
 -- a run over an outside in memory, where no count of faults rises
-pub run_in_memory : (program : Program) (based : Bool) (s t : Streams) (input printed : List ℕ) → s.input.held ≡ Some input → s.output.held ≡ Some [] → t.output.held ≡ Some printed → s.input.faults ≡ 0 → t.input.faults ≡ 0 → s.output.faults ≡ 0 → t.output.faults ≡ 0 → (e : End) → (e ≡ end.NoMemory → ⊥) → Runs (OfProgram program) (trial_options based) s t e → RunEnds program input based printed e
-run_in_memory program based s t input printed i o n j k l m end.Done some x = run_so program based s t input printed i o n run.Done x
-run_in_memory program based s t input printed i o n j k l m (end.Stopped why line) some x =
-    run_so program based s t input printed i o n (run.Stopped (kind_of (counted (trial_options based) (OfProgram program)) why) line) x
-run_in_memory program based s t input printed i o n j k l m end.Spent some x = run_so program based s t input printed i o n run.Spent x
-run_in_memory program based s t input printed i o n j k l m end.ReadFault some x = no_rise s.input.faults t.input.faults j k x.1
-run_in_memory program based s t input printed i o n j k l m end.WriteFault some x = no_rise s.output.faults t.output.faults l m x.1
-run_in_memory program based s t input printed i o n j k l m end.NoMemory some x = some refl
-run_in_memory program based s t input printed i o n j k l m end.Paused some x = x
-run_in_memory program based s t input printed i o n j k l m end.Stuck some x = x
+pub run_in_memory : (names : List (List ℕ)) (program : Program) (based : Bool) (s t : Streams) (input printed : List ℕ) → s.input.held ≡ Some input → s.output.held ≡ Some [] → t.output.held ≡ Some printed → s.input.faults ≡ 0 → t.input.faults ≡ 0 → s.output.faults ≡ 0 → t.output.faults ≡ 0 → (e : End) → (e ≡ end.NoMemory → ⊥) → Runs (OfProgram names program) (trial_options based) s t e → RunEnds program input based printed e
+run_in_memory names program based s t input printed i o n j k l m end.Done some x = run_so names program based s t input printed i o n run.Done x
+run_in_memory names program based s t input printed i o n j k l m (end.Stopped why line) some x =
+    run_so names program based s t input printed i o n (run.Stopped (kind_of (counted (trial_options based) (OfProgram names program)) why) line) x
+run_in_memory names program based s t input printed i o n j k l m end.Spent some x = run_so names program based s t input printed i o n run.Spent x
+run_in_memory names program based s t input printed i o n j k l m end.ReadFault some x = no_rise s.input.faults t.input.faults j k x.1
+run_in_memory names program based s t input printed i o n j k l m end.WriteFault some x = no_rise s.output.faults t.output.faults l m x.1
+run_in_memory names program based s t input printed i o n j k l m end.NoMemory some x = some refl
+run_in_memory names program based s t input printed i o n j k l m end.Paused some x = x
+run_in_memory names program based s t input printed i o n j k l m end.Stuck some x = x
 
 -- such a run is neither paused nor stuck
 pub not_paused : (program : Program) (input : List ℕ) (based : Bool) (printed : List ℕ) (e : End) → RunEnds program input based printed e → e ≡ end.Paused → ⊥

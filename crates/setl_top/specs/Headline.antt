@@ -1,5 +1,5 @@
 -- What a call of the program answers, and what it does to the outside.
-use Rattle.std.specs.Prelude.{◌≡◌, ◌⊎◌, ◌<◌, ◌≤◌, ℕ, Bool, List, [], ◌∷◌, ◌++◌, length, take, Option, None, Some, ⊤}
+use Rattle.std.specs.Prelude.{◌≡◌, ◌⊎◌, ◌<◌, ◌≤◌, ℕ, Bool, List, [], ◌∷◌, ◌++◌, length, take, if◌then◌else◌, Option, None, Some, ⊤}
 use Rattle.std.specs.Io.KnownBytes.{Appends, Consumes, prepend_known}
 use Rattle.setl_io.specs.Faults.{Rose, one_more}
 use Rattle.setl_model_runs.specs.Events.{End}
@@ -35,7 +35,8 @@ IsLeft None left bytes = ⊤
 IsLeft (Some input) left bytes = (kept : List ℕ) × (prepend_known kept left ≡ Some bytes)
 
 -- It comes to its end, which has this status, with this output. It leaves what its last state has of the input, but for bytes
--- that were taken ahead, and its watchers report what they were told of its events before the error line.
+-- that were taken ahead. The dump of that state is told, where it is asked for, then its watchers report what they were told of
+-- its events, and then comes the error line.
 pub record IsRun (words : List (List ℕ)) (before : Outside) (status : Status) (out err : List ℕ) (left : Option (List ℕ)) : Type 0 where
   pub job : Job
   pub asked : IsToRun words before job
@@ -43,7 +44,7 @@ pub record IsRun (words : List (List ℕ)) (before : Outside) (status : Status) 
   pub ends : status_of end ≡ Some status
   pub means : Meant job.runnable job.input job.turns job.based out end
   pub leaves : IsLeft before.input.held left means.left
-  pub tells : err ≡ reports_of job.watchers means.events ++ error_line end
+  pub tells : err ≡ (if job.dump then means.dump else []) ++ reports_of job.watchers means.events ++ error_line end
 
 -- it has written this at one of its states
 pub record IsAtState (words : List (List ℕ)) (before : Outside) (out : List ℕ) : Type 0 where

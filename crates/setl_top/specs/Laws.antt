@@ -1,5 +1,5 @@
 -- Laws over the headline and the definitions under it.
-use Rattle.std.specs.Prelude.{◌≡◌, ◌<◌, ◌≤◌, ◌^◌, ◌↔◌, ◌⊎◌, ℕ, Bool, true, List, [], ◌∷◌, ◌++◌, length, Option, Some}
+use Rattle.std.specs.Prelude.{◌≡◌, ◌<◌, ◌≤◌, ◌^◌, ◌↔◌, ◌⊎◌, ℕ, Bool, true, List, [], ◌∷◌, ◌++◌, length, if◌then◌else◌, Option, Some}
 use Rattle.setl_model.specs.Ending.{Ending}
 use Rattle.setl_model_runs.specs.Events.{End, Stopped, Stuck, Unfit}
 use Rattle.setl_model_runs.specs.Variable.{Variable}
@@ -10,14 +10,18 @@ use Rattle.setl_tree.specs.declared.tree.Tree.{Tree}
 use Rattle.setl_top.specs.Accepted.{IsProgram, Accepted, IsRefusedFor, Refusal}
 use Rattle.setl_top.specs.Headline.{Headline, InputLeft, LoadFailed, LoadsAsked, Ended, AnyRose, Answers, Job, IsToLoad, IsToRun, IsTried, TellsRefusal, trial_output}
 use Rattle.setl_top.specs.Built.{IsBuilt, IsLongCode, CodeRefusal}
-use Rattle.setl_top.specs.Runnable.{Meant, OfProgram, of_image, RunsAlike}
+use Rattle.setl_top.specs.Runnable.{Meant, of_tree, of_image, RunsAlike}
+use Rattle.setl_code.specs.Code as plain
+use Rattle.setl_code.specs.CodeOf.{code_of}
+use Rattle.setl_code.specs.Sound.{Few}
+use Rattle.setl_code_marked.specs.Marked.{declared_in}
 use Rattle.setl_image_format.specs.ImageCodec.{Image}
 use Rattle.setl_top_images.specs.CodeFiles.{IsCodeFile, flaw_line}
 use Rattle.setl_top_images.specs.declared.images.Flaw.TheVariants.{TooLong}
 use Rattle.setl_top_advice.specs.Advised.{IsAdvised, HasRepr}
 use Rattle.setl_top_advice.specs.Put.{with_section}
 use Rattle.setl_top.specs.Explained.{IsExplained}
-use Rattle.setl_top.specs.Listings.{IsListing}
+use Rattle.setl_top.specs.Listings.{IsListing, IsMarked}
 use Rattle.setl_top.specs.Outside.{Outside}
 use Rattle.setl_top.specs.Watching.{IsThere, IsNoRequest, reports_of}
 use Rattle.setl_debug_script.specs.declared.command.Command.{Command as ScriptCommand}
@@ -132,6 +136,13 @@ RefusesCodeExactly = (words : List (List ℕ)) (before : Outside) (options : Opt
     AsksOf words before (Run CodeFile options) bytes → IsThere options.watch before.watchers → CodeRefusal bytes line → Answers words before status out err left →
     (status ≡ Refused) × (out ≡ []) × (err ≡ line ++ 10 ∷ []) × (left ≡ before.input.held)
 
+-- Numbers of 32 bits are enough for the bodies, steps, slots and declared variables of the code of each program, also where
+-- last uses are takes.
+abbrev pub CodeIsFew : Type 0
+CodeIsFew = (source : List ℕ) (tree : Tree) → IsProgram source tree →
+    Few (code_of (program_of tree)) (declared_in (program_of tree).modes)
+    × ((c : plain.Code) → IsMarked (program_of tree) c → Few c (declared_in (program_of tree).modes))
+
 -- A code file is built only where the source is a program, and what is written is then a code file of that program, unless
 -- its spelling is too long, which is refused; any other source is refused and writes nothing.
 abbrev pub BuildsExactly : Type 0
@@ -142,10 +153,10 @@ BuildsExactly = (words : List (List ℕ)) (before : Outside) (source : List ℕ)
     × ((status ≡ ended.Done) ⊎ ((status ≡ Refused) × (out ≡ []))) × (left ≡ before.input.held)
 
 -- The code file that is built of a source runs as the source does: each run of the one ends as that of the other, with the
--- same output and the same events, and leaves the same of its input.
+-- same output, the same events and the same dump, and leaves the same of its input.
 abbrev pub CodeFilesRunAlike : Type 0
 CodeFilesRunAlike = (source bytes : List ℕ) (tree : Tree) (i : Image) → IsProgram source tree → IsBuilt tree bytes → IsCodeFile bytes i →
-    RunsAlike (OfProgram (program_of tree)) (of_image i) × RunsAlike (of_image i) (OfProgram (program_of tree))
+    RunsAlike (of_tree tree) (of_image i) × RunsAlike (of_image i) (of_tree tree)
 
 -- Advice is done exactly where the source is a program without declarations, and what is written is then advice for it; a
 -- program with declarations is refused by the line of the first of them.
@@ -200,7 +211,7 @@ abbrev pub EndsExactly : Type 0
 EndsExactly = (words : List (List ℕ)) (before : Outside) (input : List ℕ) (job : Job) (said : List ℕ) (end : End) (status : Status) (out err : List ℕ) (left : Option (List ℕ)) →
     ((texts : List ℕ → Option (List ℕ)) × TellsTexts before texts) → before.input.held ≡ Some input →
     IsToRun words before job → (means : Meant job.runnable job.input job.turns job.based said end) → Answers words before status out err left →
-    (status_of end ≡ Some status) × (out ≡ said) × (err ≡ reports_of job.watchers means.events ++ error_line end)
+    (status_of end ≡ Some status) × (out ≡ said) × (err ≡ (if job.dump then means.dump else []) ++ reports_of job.watchers means.events ++ error_line end)
 
 -- every run of an accepted program ends, for every input and bound on turns, whether declarations count or not
 abbrev pub AcceptedRunsEnd : Type 0

@@ -28,13 +28,14 @@ pub record IsToLoad (words : List (List ℕ)) (before : Outside) (name : List �
   pub file : HasFile command name
   pub there : IsThere (watched_by command) before.watchers
 
--- what is run: a program or code, the bytes of its input, its bound on turns, whether its declarations count, and the
--- watchers that are told its events
+-- what is run: a program or code, the bytes of its input, its bound on turns, whether its declarations count, whether its dump
+-- is told, and the watchers that are told its events
 pub record Job : Type 0 where
   pub runnable : Runnable
   pub input : List ℕ
   pub turns : ℕ
   pub based : Bool
+  pub dump : Bool
   pub watchers : List Watch
 
 -- where the bytes left of an input are told, they are these
@@ -49,7 +50,7 @@ pub record IsToRun (words : List (List ℕ)) (before : Outside) (job : Job) : Ty
   pub name : List ℕ
   pub bytes : List ℕ
   pub spelled : Spells words command
-  pub runs : RunsFile command kind name job.turns job.based
+  pub runs : RunsFile command kind name job.turns job.based job.dump
   pub text : IsText before.files.held name bytes
   pub holds : Holds kind bytes job.runnable
   pub input : IsInput before.input.held job.input

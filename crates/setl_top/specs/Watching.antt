@@ -33,6 +33,10 @@ IsNoRequest words ws = (command : Command) → Spells words command → IsThere 
 abbrev pub all_told : Watched → List ℕ
 all_told h = h.reports ++ all_reported h.watchers
 
+-- the same with a text before the reports
+abbrev pub headed : List ℕ → Watched → Watched
+headed text h = record h { reports = text ++ h.reports }
+
 -- what watchers report of a run with these events
 abbrev pub reports_of : List Watch → List Event → List ℕ
 reports_of ws events = all_told (told_all events (watched ws []))

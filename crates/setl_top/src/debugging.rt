@@ -61,7 +61,9 @@ fn follow_source<O: Sink, E: Sink>(
     let Ok(coded) = code_of_source(alloc, source) else {
         return break_off(err, Fault::NoMemory);
     };
-    let bases = bases_named(coded.program.declared.as_slice());
+    let Some(bases) = bases_named(coded.program.declared.as_slice()) else {
+        return break_off(err, Fault::NoMemory);
+    };
     follow(
         alloc,
         &coded.program,

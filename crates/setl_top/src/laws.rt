@@ -1,5 +1,5 @@
 //! What follows from the headline and the definitions alone. The functions have no effect: each states a law.
-ghost use Rattle.setl_top.specs.Laws.{IsComplete, FaultyWordsReadNothing, WordsExactly, RefusesExactly, RefusesCodeExactly, ChecksExactly, ListsExactly, BuildsExactly, CodeFilesRunAlike, OneListing, ExplainsExactly, DebugsExactly, TrialsReadNothing, TriesExactly, EndsExactly, AcceptedRunsEnd, NoAcceptedRunIsStuck, EitherProgramOrRefused, NotProgramAndRefused, OneTree, OneReason, AdvisedSourcesFit, AdvisesExactly, FailedLoadEnds, FailedReadEnds, FailedWriteEnds};
+ghost use Rattle.setl_top.specs.Laws.{IsComplete, FaultyWordsReadNothing, WordsExactly, RefusesExactly, RefusesCodeExactly, ChecksExactly, ListsExactly, CodeIsFew, BuildsExactly, CodeFilesRunAlike, OneListing, ExplainsExactly, DebugsExactly, TrialsReadNothing, TriesExactly, EndsExactly, AcceptedRunsEnd, NoAcceptedRunIsStuck, EitherProgramOrRefused, NotProgramAndRefused, OneTree, OneReason, AdvisedSourcesFit, AdvisesExactly, FailedLoadEnds, FailedReadEnds, FailedWriteEnds};
 
 /// Where the texts are told, an `exec` of bytes that are no code file is refused by the line of their first flaw by length,
 /// spelling and soundness, the output has gained nothing, and the input is left as it was.
@@ -23,7 +23,7 @@ pub fn builds_exactly()
 }
 
 /// The code file that is built of a source runs as the source does: each run of the one ends as that of the other, with the
-/// same output and the same events, and leaves the same of its input.
+/// same output, the same events and the same dump, and leaves the same of its input.
 pub fn code_files_run_alike()
     ensures { CodeFilesRunAlike }
 {
@@ -31,6 +31,7 @@ pub fn code_files_run_alike()
     setl_program_laws::accepted_is_formed();
     setl_code_marked_simulation::marked_code_means_what_the_program_means();
     setl_code_marked_simulation::marked_code_reaches_the_same_states();
+    setl_code_layout::code_lays_out_what_is_meant();
 }
 
 /// Each source, whatever its bytes, is a program with one tree or is refused for one reason, and not both.
@@ -106,6 +107,15 @@ pub fn lists_exactly()
     setl_parse::one_fault();
 }
 
+/// Numbers of 32 bits are enough for the bodies, steps, slots and declared variables of the code of each program, also where
+/// last uses are takes.
+pub fn code_is_few()
+    ensures { CodeIsFew }
+{
+    setl_code_few::code_is_few();
+    setl_code_few::tokens_are_few();
+}
+
 /// Each program has a listing, and only one.
 pub fn each_program_has_one_listing()
     ensures { OneListing }
@@ -177,8 +187,8 @@ pub fn tries_exactly()
 }
 
 /// Where the texts and the input are told and the program or the code ends so, a call that came to its end has that end's
-/// status and output; the error output has gained what the watchers that were asked for report of its events, and then its
-/// error line.
+/// status and output; the error output has gained the dump of its last state, where that is asked for and declarations count, then
+/// what the watchers that were asked for report of its events, and then its error line.
 pub fn ends_exactly()
     ensures { EndsExactly }
 {

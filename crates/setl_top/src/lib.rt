@@ -29,10 +29,10 @@ mod watching;
 
 pub use laws::{
     advised_sources_fit, advises_exactly, builds_exactly, checks_exactly, code_files_run_alike,
-    code_refused_exactly, completeness, debugs_exactly, each_program_has_one_listing, ends_exactly,
-    every_accepted_run_ends, explains_exactly, faulty_words_read_nothing, first_fault_ends,
-    lists_exactly, program_or_refusal, refused_exactly, trials_read_nothing, tries_exactly,
-    words_exactly,
+    code_is_few, code_refused_exactly, completeness, debugs_exactly, each_program_has_one_listing,
+    ends_exactly, every_accepted_run_ends, explains_exactly, faulty_words_read_nothing,
+    first_fault_ends, lists_exactly, program_or_refusal, refused_exactly, trials_read_nothing,
+    tries_exactly, words_exactly,
 };
 pub use setl_top_status::Status;
 pub use top::setl;

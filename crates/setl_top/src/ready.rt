@@ -6,11 +6,10 @@ ghost use Rattle.setl_image_names.specs.Once.{variable_of};
 ghost use Rattle.setl_image_sound.specs.SoundImage.{SoundImage};
 ghost use Rattle.setl_model_runs.specs.Variable as variable;
 ghost use Rattle.setl_modes.specs.Modes.{mode_of};
-ghost use Rattle.setl_program.specs.ProgramOf.{program_of};
 ghost use Rattle.setl_program.specs.code.Plain.{plain_declared};
 ghost use Rattle.setl_program_laws.specs.Claims.{IsAccepted};
 ghost use Rattle.setl_top.specs.Runnable as runnable;
-ghost use Rattle.setl_top.specs.Runnable.{OfProgram};
+ghost use Rattle.setl_top.specs.Runnable.{of_tree};
 ghost use Rattle.setl_top.specs.code.Ready.{IsReady};
 ghost use Rattle.setl_top_rules.specs.Rules.{AreModes};
 
@@ -20,15 +19,17 @@ use setl_code::Code;
 use setl_image::Image;
 use setl_image_names::different_names;
 use setl_modes::{ModeTable, NamedMode};
+use setl_modes_declarations::mode_table;
 use setl_names::Names;
 use setl_program::{Declared, Program, Variable};
 use setl_tree::Items;
 use std::alloc::{AllocError, Global};
 
-/// Code with its declared variables.
+/// Code with its bases and its declared variables.
 #[derive(Drop)]
 pub struct Ready {
     pub code: Code,
+    pub bases: Items<NamedMode>,
     pub declared: Items<Declared>,
 }
 
@@ -36,12 +37,17 @@ pub struct Ready {
 pub fn ready_of_source(alloc: Global, source: Checked) -> Result<Ready, AllocError>
     requires modes { AreModes source.tree source.modes }
     requires accepted { IsAccepted source.tree }
-    ensures { IfOk result (IsReady (OfProgram (program_of source.tree))) }
+    ensures { IfOk result (IsReady (of_tree source.tree)) }
 {
+    let ModeTable { bases, .. } = mode_table(alloc, source.tree.modes.as_slice())?;
     let program = program_of_source(alloc, source)?;
     let code = code_of_program(alloc, &program)?;
     let Program { declared, .. } = program;
-    Ok(Ready { code, declared })
+    Ok(Ready {
+        code,
+        bases,
+        declared,
+    })
 }
 
 /// What a code file holds, ready to run. The error is want of memory.
@@ -50,9 +56,13 @@ pub fn ready_of_image(alloc: Global, image: Image) -> Result<Ready, AllocError>
     ensures { IfOk result (IsReady (runnable.of_image (image_of image))) }
 {
     let Image { code, modes } = image;
-    let ModeTable { vars, .. } = modes;
+    let ModeTable { bases, vars } = modes;
     let declared = declared_of(alloc, &code, vars)?;
-    Ok(Ready { code, declared })
+    Ok(Ready {
+        code,
+        bases,
+        declared,
+    })
 }
 
 /// The declared variables of a code file by their names. The error is want of memory.

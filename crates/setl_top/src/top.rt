@@ -28,7 +28,7 @@ use std::alloc::Global;
 
 /// Does what the words of the command line ask for, and tells how that ended.
 ///
-/// `words` are those after the program's own name: `run [--unbased] [--turns N] [--watch NAME] FILE`, `exec` with the same
+/// `words` are those after the program's own name: `run [--unbased] [--dump] [--turns N] [--watch NAME] FILE`, `exec` with the same
 /// options, `check FILE`, `code FILE`, `build FILE`, `advise FILE`, `explain FILE`, `explain --stop NAME`, `debug [--unbased]
 /// FILE` or `trial SEED N`. `run` runs the program of a source and `exec` the code of a code file. With `--unbased` its
 /// declarations don't count, and N from 0 to 2^63 - 1 bounds its turns, which are 2^63 - 1 otherwise. `--watch trace` asks for
@@ -55,8 +55,9 @@ use std::alloc::Global;
 /// the run with declarations printed, where that is done, and otherwise nothing; the call ends as that run.
 ///
 /// For `run FILE` and `code FILE`, `out` gains what the program prints, each line at its `print`, or the listing of its
-/// code. Where a run ended as its program does, `err` gains the reports of the watchers, first of those that had
-/// enough, in the order in which they had, and then of the others in their order. It gains then the last line of a call
+/// code. Where a run ended as its program does, `err` gains first, with `--dump` and without `--unbased`, the dump of its last
+/// state: the members of the bases, and what the declared variables hold. It gains then the reports of the watchers, first of
+/// those that had enough, in the order in which they had, and then of the others in their order. It gains then the last line of a call
 /// that wasn't done, if it has one, or what is told of words that are of no such form. Bytes are taken off the front of
 /// `input` only by a session over an accepted program, and by a run that comes to a `read`, and `out` has then gained what
 /// the run had printed there. Where a `print` failed, `input` has what the run had left at it, but for bytes that were taken

@@ -1,5 +1,5 @@
 //! Trials: a fixed program on an input that is drawn, with its declarations and without.
-ghost use Rattle.std.specs.Prelude.{◌≡◌, ◌≤◌, ◌↔◌, true, IsTrue, IfOk};
+ghost use Rattle.std.specs.Prelude.{◌≡◌, ◌≤◌, ◌↔◌, true, ℕ, List, IsTrue, IfOk};
 ghost use Rattle.setl_program.specs.Program.{Program};
 ghost use Rattle.setl_top.specs.Trials.{trial_source, trial_input, trial_line};
 ghost use Rattle.setl_top_status.specs.Seen.{seen};
@@ -55,7 +55,7 @@ fn run_on_input(
     requires trial { IsTrial ready.now }
     requires some { 1 ≤ nodes }
     requires few { nodes ≤ 2000 }
-    ensures { IfOk result (λ run. (p : Program) → IsReady (OfProgram p) ready.now → RunEnds p (trial_input seed nodes) based run.printed run.end) }
+    ensures { IfOk result (λ run. (names : List (List ℕ)) (p : Program) → IsReady (OfProgram names p) ready.now → RunEnds p (trial_input seed nodes) based run.printed run.end) }
 {
     let mut input = SureSource::new(trial_input(alloc, seed, nodes)?);
     let mut printed = SureSink::new(alloc)?;
@@ -64,6 +64,7 @@ fn run_on_input(
     let asked = Options {
         turns: MOST_TURNS,
         based,
+        dump: false,
         watch: None,
     };
     let end = run_ready(
@@ -87,7 +88,7 @@ fn run_twice(alloc: Global, ready: &Ready, seed: u64, nodes: u64) -> Result<Tria
     requires trial { IsTrial ready.now }
     requires some { 1 ≤ nodes }
     requires few { nodes ≤ 2000 }
-    ensures { IfOk result (λ run. (p : Program) → IsReady (OfProgram p) ready.now → RunEnds p (trial_input seed nodes) true run.printed run.end) }
+    ensures { IfOk result (λ run. (names : List (List ℕ)) (p : Program) → IsReady (OfProgram names p) ready.now → RunEnds p (trial_input seed nodes) true run.printed run.end) }
 {
     let based = run_on_input(alloc, ready, seed, nodes, true)?;
     let _unbased = run_on_input(alloc, ready, seed, nodes, false)?;
@@ -122,7 +123,7 @@ fn tell_trial<O: Sink, E: Sink>(
     err: &mut E,
 ) -> Status
     requires trial { IsTrial ready.now }
-    requires ran { (p : Program) → IsReady (OfProgram p) ready.now → RunEnds p (trial_input seed nodes) true run.printed run.end }
+    requires ran { (names : List (List ℕ)) (p : Program) → IsReady (OfProgram names p) ready.now → RunEnds p (trial_input seed nodes) true run.printed run.end }
     ensures { Tries seed nodes (seen O.held O.calls O.faults out.old) (seen O.held O.calls O.faults out.new) (seen E.held E.calls E.faults err.old) (seen E.held E.calls E.faults err.new) result }
 {
     if is_done(run.end) {

@@ -13,6 +13,8 @@ const MOST_TURNS: u64 = (1 << 63) - 1;
 pub enum RunOption {
     /// Declarations of bases don't count.
     Unbased,
+    /// The dump is told.
+    Dump,
     /// The bound on the turns of the run.
     Turns(u64),
     /// The watcher that is told its events.
@@ -26,6 +28,8 @@ pub struct Given {
     pub turns: Option<u64>,
     /// Whether it was given that declarations don't count.
     pub unbased: bool,
+    /// Whether it was given that the dump is told.
+    pub dump: bool,
     /// The watcher that is told its events, if one was given.
     pub watch: Option<Asked>,
 }
@@ -38,6 +42,7 @@ impl Given {
         Given {
             turns: None,
             unbased: false,
+            dump: false,
             watch: None,
         }
     }
@@ -52,6 +57,7 @@ impl Given {
                 unbased: true,
                 ..self
             }),
+            RunOption::Dump if !self.dump => Some(Given { dump: true, ..self }),
             RunOption::Turns(turns) if self.turns.is_none() => Some(Given {
                 turns: Some(turns),
                 ..self
@@ -68,11 +74,13 @@ impl Given {
     pub fn options(self) -> Options
         ensures turns { result.turns ≡ unwrap_or self.turns (2 ^ 63 - 1) }
         ensures based { result.based ≡ not self.unbased }
+        ensures dump { result.dump ≡ self.dump }
         ensures watch { result.watch ≡ self.watch }
     {
         Options {
             turns: self.turns.unwrap_or(MOST_TURNS),
             based: !self.unbased,
+            dump: self.dump,
             watch: self.watch,
         }
     }

@@ -1,5 +1,5 @@
 //! The options of a run.
-ghost use Rattle.std.specs.Prelude.{◌≡◌, [], if◌then◌else◌};
+ghost use Rattle.std.specs.Prelude.{◌≡◌, ◌&&◌, [], if◌then◌else◌};
 
 use crate::watching::Asked;
 
@@ -10,6 +10,8 @@ pub struct Options {
     pub turns: u64,
     /// Whether the program's declarations count.
     pub based: bool,
+    /// Whether the dump is asked for, which is told where declarations count.
+    pub dump: bool,
     /// The watcher that is told the events of the run.
     pub watch: Option<Asked>,
 }
@@ -20,5 +22,12 @@ impl Options {
         ensures { result.now ≡ (if self.based then declared.now else []) }
     {
         if self.based { declared } else { &[] }
+    }
+
+    /// Whether the run tells its dump.
+    pub fn dumps(self) -> bool
+        ensures { result ≡ (self.dump && self.based) }
+    {
+        self.dump && self.based
     }
 }

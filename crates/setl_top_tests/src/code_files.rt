@@ -120,6 +120,15 @@ end program;
 --
 line 2: 2
 ====
+--dump
+--
+program p; repr base n: int; t: tuple(elmt n); x: elmt n; end repr; t := [5,om,7]; x := 7; end program;
+--
+--
+base n 2: 5 7
+t tuple 1 * 2
+x elmt 2
+====
 --watch profile
 --
 program p;

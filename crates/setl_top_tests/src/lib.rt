@@ -14,6 +14,8 @@ mod code_files;
 #[cfg(test)]
 mod declarations;
 #[cfg(test)]
+mod dumps;
+#[cfg(test)]
 mod explanations;
 #[cfg(test)]
 mod faults;

@@ -29,8 +29,8 @@ fn word_of(kind: FileKind) -> &'static str {
     }
 }
 
-/// The command of a line as a text: of a run what its file holds, its bound on turns, whether declarations count, the name of
-/// the watcher that is asked for, and its file; of a session whether declarations count, and its file; of a stop and of a trial
+/// The command of a line as a text: of a run what its file holds, its bound on turns, whether declarations count, whether the dump
+/// is asked for, the name of the watcher that is asked for, and its file; of a session whether declarations count, and its file; of a stop and of a trial
 /// the numbers.
 fn asked(alloc: Global, line: &str) -> Result<String, Fail> {
     let words = words_of(alloc, line)?;
@@ -39,8 +39,8 @@ fn asked(alloc: Global, line: &str) -> Result<String, Fail> {
             let word = word_of(kind);
             let watcher = watcher(options);
             format!(in alloc;
-                "{word} {} {} {watcher} {file}",
-                options.turns, options.based
+                "{word} {} {} {} {watcher} {file}",
+                options.turns, options.based, options.dump
             )?
         }
         Some(Command::Check(file)) => format!(in alloc; "check {file}")?,
@@ -57,18 +57,21 @@ fn asked(alloc: Global, line: &str) -> Result<String, Fail> {
 }
 
 /// What lines ask for, and the lines.
-const LINES: &str = "run 9223372036854775807 true 0 q.setl: run q.setl
-run 9223372036854775807 false 0 q.setl: run --unbased q.setl
-run 0 true 0 q.setl: run --turns 0 q.setl
-run 50 false 0 q.setl: run --turns 50 --unbased q.setl
-run 9223372036854775807 true 1 q.setl: run --watch trace q.setl
-run 9223372036854775807 true 2 q.setl: run --watch cover q.setl
-run 5 false 2 q.setl: run --turns 5 --watch cover --unbased q.setl
-run 9223372036854775807 false 0 q.setl: run --unbased --turns 9223372036854775807 q.setl
-exec 9223372036854775807 true 0 q.code: exec q.code
-exec 50 false 0 q.code: exec --turns 50 --unbased q.code
-exec 9223372036854775807 true 1 q.code: exec --watch trace q.code
-exec 5 false 3 exec: exec --unbased --watch profile --turns 5 exec
+const LINES: &str = "run 9223372036854775807 true false 0 q.setl: run q.setl
+run 9223372036854775807 true true 0 q.setl: run --dump q.setl
+run 5 false true 1 q.setl: run --watch trace --dump --unbased --turns 5 q.setl
+exec 9223372036854775807 true true 0 q.code: exec --dump q.code
+run 9223372036854775807 false false 0 q.setl: run --unbased q.setl
+run 0 true false 0 q.setl: run --turns 0 q.setl
+run 50 false false 0 q.setl: run --turns 50 --unbased q.setl
+run 9223372036854775807 true false 1 q.setl: run --watch trace q.setl
+run 9223372036854775807 true false 2 q.setl: run --watch cover q.setl
+run 5 false false 2 q.setl: run --turns 5 --watch cover --unbased q.setl
+run 9223372036854775807 false false 0 q.setl: run --unbased --turns 9223372036854775807 q.setl
+exec 9223372036854775807 true false 0 q.code: exec q.code
+exec 50 false false 0 q.code: exec --turns 50 --unbased q.code
+exec 9223372036854775807 true false 1 q.code: exec --watch trace q.code
+exec 5 false false 3 exec: exec --unbased --watch profile --turns 5 exec
 check q.setl: check q.setl
 code q.setl: code q.setl
 build q.setl: build q.setl
@@ -93,6 +96,9 @@ faulty: run --turns=5 q.setl
 faulty: run --turns q.setl
 faulty: run --turns 5 --turns 5 q.setl
 faulty: run --unbased --unbased q.setl
+faulty: run --dump --dump q.setl
+faulty: debug --dump q.setl
+faulty: run --dump=yes q.setl
 faulty: run --watch q.setl
 faulty: run --watch profiles q.setl
 faulty: run --watch Trace q.setl
@@ -255,6 +261,7 @@ Arguments:
 
 Options:
       --unbased       Leave all declarations out of account
+      --dump          Tell the members of the bases and what the declared variables hold at the end
       --turns <N>     Stop the run after so many turns
       --watch <NAME>  Report what a watcher saw of the run: trace, cover or profile
   -h, --help          Print help

@@ -7,7 +7,7 @@ use Rattle.setl_top_words.specs.code.Reading.{AreFree, Gives, Leads, LeadsNowher
 use Rattle.setl_top_options.specs.code.Given.{IsFree, with_given, is_nothing}
 use Rattle.setl_top_options.specs.declared.given.Given.{Given}
 use Rattle.setl_top_options.specs.declared.given.RunOption.{RunOption}
-use Rattle.setl_top_options.specs.declared.given.RunOption.TheVariants.{Unbased, Turns, Watch}
+use Rattle.setl_top_options.specs.declared.given.RunOption.TheVariants.{Unbased, Dump, Turns, Watch}
 use Rattle.setl_top_options.specs.declared.watching.Asked.{Asked}
 use Rattle.setl_top_options.specs.declared.watching.Asked.TheVariants.{Trace, Cover, Profile}
 
@@ -39,6 +39,15 @@ tail_of x y xs ys e = ap (drop 1) e
 unbased_or_turns : codes "--unbased" ≢ codes "--turns"
 unbased_or_turns e = absurd (search (rules, e))
 
+unbased_or_dump : codes "--unbased" ≢ codes "--dump"
+unbased_or_dump e = absurd (search (rules, e))
+
+pub dump_or_turns : codes "--dump" ≢ codes "--turns"
+dump_or_turns e = absurd (search (rules, e))
+
+pub dump_or_watch : codes "--dump" ≢ codes "--watch"
+dump_or_watch e = absurd (search (rules, e))
+
 unbased_or_watch : codes "--unbased" ≢ codes "--watch"
 unbased_or_watch e = absurd (search (rules, e))
 
@@ -69,6 +78,13 @@ pub one_option : (a b : RunOption) (xs ys : List (List ℕ)) → IsInRange a →
 one_option Unbased Unbased xs ys i j e = (refl, tail_of _ _ xs ys e)
 one_option Unbased (Turns m) xs ys i j e = absurd (unbased_or_turns (head_of _ _ _ _ e))
 one_option Unbased (Watch b) xs ys i j e = absurd (unbased_or_watch (head_of _ _ _ _ e))
+one_option Unbased Dump xs ys i j e = absurd (unbased_or_dump (head_of _ _ _ _ e))
+one_option Dump Dump xs ys i j e = (refl, tail_of _ _ xs ys e)
+one_option Dump Unbased xs ys i j e = absurd (unbased_or_dump (sym (head_of _ _ _ _ e)))
+one_option Dump (Turns m) xs ys i j e = absurd (dump_or_turns (head_of _ _ _ _ e))
+one_option Dump (Watch b) xs ys i j e = absurd (dump_or_watch (head_of _ _ _ _ e))
+one_option (Turns n) Dump xs ys i j e = absurd (dump_or_turns (sym (head_of _ _ _ _ e)))
+one_option (Watch a) Dump xs ys i j e = absurd (dump_or_watch (sym (head_of _ _ _ _ e)))
 one_option (Turns n) Unbased xs ys i j e = absurd (unbased_or_turns (sym (head_of _ _ _ _ e)))
 one_option (Turns n) (Watch b) xs ys i j e = absurd (turns_or_watch (head_of _ _ _ _ e))
 one_option (Watch a) Unbased xs ys i j e = absurd (unbased_or_watch (sym (head_of _ _ _ _ e)))
@@ -82,6 +98,7 @@ one_option (Turns n) (Turns m) xs ys i j e =
 
 no_option_is_empty : (a : RunOption) (xs : List (List ℕ)) → [] ≡ option_words a ++ xs → ⊥
 no_option_is_empty Unbased xs e = absurd (omega (arith, ap length e))
+no_option_is_empty Dump xs e = absurd (omega (arith, ap length e))
 no_option_is_empty (Turns n) xs e = absurd (omega (arith, ap length e))
 no_option_is_empty (Watch a) xs e = absurd (omega (arith, ap length e))
 
@@ -100,6 +117,13 @@ free_before : (given : Given) (a b : RunOption) → IsFree (with_given given a) 
 free_before given Unbased Unbased f = absurd (search (rules, f))
 free_before given Unbased (Turns m) f = (f, λ x. x)
 free_before given Unbased (Watch b) f = (f, λ x. x)
+free_before given Unbased Dump f = (f, λ x. x)
+free_before given Dump Unbased f = (f, λ x. x)
+free_before given Dump Dump f = absurd (search (rules, f))
+free_before given Dump (Turns m) f = (f, λ x. x)
+free_before given Dump (Watch b) f = (f, λ x. x)
+free_before given (Turns n) Dump f = (f, λ x. x)
+free_before given (Watch a) Dump f = (f, λ x. x)
 free_before given (Turns n) Unbased f = (f, λ x. x)
 free_before given (Turns n) (Turns m) f = absurd (search (rules, f))
 free_before given (Turns n) (Watch b) f = (f, λ x. x)
@@ -111,6 +135,13 @@ free_after : (given : Given) (a b : RunOption) → IsFree given b → (IsSameKin
 free_after given Unbased Unbased f o = absurd (o tt)
 free_after given Unbased (Turns m) f o = f
 free_after given Unbased (Watch b) f o = f
+free_after given Unbased Dump f o = f
+free_after given Dump Unbased f o = f
+free_after given Dump Dump f o = absurd (o tt)
+free_after given Dump (Turns m) f o = f
+free_after given Dump (Watch b) f o = f
+free_after given (Turns n) Dump f o = f
+free_after given (Watch a) Dump f o = f
 free_after given (Turns n) Unbased f o = f
 free_after given (Turns n) (Turns m) f o = absurd (o tt)
 free_after given (Turns n) (Watch b) f o = f
@@ -173,6 +204,7 @@ nowhere_else given words some none (b ∷ bs) g = none b _ g.valid.0 g.spelled
 all_free_at_first : (options : List RunOption) → AreFree is_nothing options
 all_free_at_first [] = tt
 all_free_at_first (Unbased ∷ options) = (refl, all_free_at_first options)
+all_free_at_first (Dump ∷ options) = (refl, all_free_at_first options)
 all_free_at_first (Turns n ∷ options) = (refl, all_free_at_first options)
 all_free_at_first (Watch a ∷ options) = (refl, all_free_at_first options)
 
@@ -182,10 +214,11 @@ first_gives given is words options e valid = record { spelled = e; valid = valid
 -- ---- what options come to
 
 abbrev pub options_from : Given → Options
-options_from given = record { turns = unwrap_or given.turns (2 ^ 63 - 1); based = not given.unbased; watch = given.watch }
+options_from given = record { turns = unwrap_or given.turns (2 ^ 63 - 1); based = not given.unbased; dump = given.dump; watch = given.watch }
 
 comes_on : (given : Given) (a : RunOption) → options_from (with_given given a) ≡ with_option (options_from given) a
 comes_on given Unbased = refl
+comes_on given Dump = refl
 comes_on given (Turns n) = refl
 comes_on given (Watch a) = refl
 

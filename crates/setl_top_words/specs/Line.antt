@@ -7,6 +7,9 @@ use Rattle.clap.specs.declared.builder.value_parser.ValueParser.TheVariants.{Sig
 abbrev pub unbased_rule : Rule
 unbased_rule = record (new_rule (codes "unbased")) { long = Some (codes "unbased"); action = Some SetTrue }
 
+abbrev pub dump_rule : Rule
+dump_rule = record (new_rule (codes "dump")) { long = Some (codes "dump"); action = Some SetTrue }
+
 abbrev pub turns_rule : Rule
 turns_rule = record (new_rule (codes "turns")) { long = Some (codes "turns"); value_names = 1; parser = Some (Signed (pos 0) (pos (2 ^ 63 - 1))) }
 
@@ -24,7 +27,7 @@ nodes_rule = record (new_rule (codes "nodes")) { value_names = 1; required = tru
 
 -- a command that runs what a file holds
 abbrev pub run_app : List ℕ → App
-run_app name = with_rule (with_rule (with_rule (with_rule (new_app name) unbased_rule) turns_rule) watch_rule) file_rule
+run_app name = with_rule (with_rule (with_rule (with_rule (with_rule (new_app name) unbased_rule) dump_rule) turns_rule) watch_rule) file_rule
 
 abbrev pub file_app : List ℕ → App
 file_app name = with_rule (new_app name) file_rule

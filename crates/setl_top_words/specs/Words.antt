@@ -1,9 +1,9 @@
 -- The plain form of the words: a command, the options of a run and the file that the command reads, or the two numbers of a
 -- trial.
-use Rattle.std.specs.Prelude.{◌≡◌, ◌≢◌, ◌<◌, ◌≤◌, ◌-◌, ◌^◌, ℕ, Bool, true, false, List, [], ◌∷◌, ◌++◌, Option, Some, None, ⊤, codes, decimal}
+use Rattle.std.specs.Prelude.{◌≡◌, ◌≢◌, ◌<◌, ◌≤◌, ◌-◌, ◌^◌, ℕ, Bool, true, false, List, [], ◌∷◌, ◌++◌, ◌&&◌, Option, Some, None, ⊤, codes, decimal}
 use Rattle.std.specs.List.{flat_map, fold}
 use Rattle.setl_top_options.specs.declared.given.RunOption.{RunOption}
-use Rattle.setl_top_options.specs.declared.given.RunOption.TheVariants.{Unbased, Turns, Watch}
+use Rattle.setl_top_options.specs.declared.given.RunOption.TheVariants.{Unbased, Dump, Turns, Watch}
 use Rattle.setl_top_options.specs.declared.watching.Asked.{Asked}
 use Rattle.setl_top_options.specs.declared.watching.Asked.TheVariants.{Trace, Cover, Profile}
 use Rattle.setl_top_words.specs.declared.reading.FileKind.{FileKind}
@@ -29,16 +29,19 @@ watcher_word Profile = codes "profile"
 -- the words of an option; a number is written by decimal digits, without sign and without a leading zero
 abbrev pub option_words : RunOption → List (List ℕ)
 option_words Unbased = codes "--unbased" ∷ []
+option_words Dump = codes "--dump" ∷ []
 option_words (Turns n) = codes "--turns" ∷ decimal n ∷ []
 option_words (Watch asked) = codes "--watch" ∷ watcher_word asked ∷ []
 
 abbrev pub IsInRange : RunOption → Type 0
 IsInRange Unbased = ⊤
+IsInRange Dump = ⊤
 IsInRange (Turns n) = n < 2 ^ 63
 IsInRange (Watch asked) = ⊤
 
 abbrev pub IsSameKind : RunOption → RunOption → Type 0
 IsSameKind Unbased Unbased = ⊤
+IsSameKind Dump Dump = ⊤
 IsSameKind (Turns n) (Turns m) = ⊤
 IsSameKind (Watch a) (Watch b) = ⊤
 IsSameKind option other = ⊥
@@ -53,18 +56,20 @@ abbrev pub AreOptions : List RunOption → Type 0
 AreOptions [] = ⊤
 AreOptions (x ∷ xs) = IsInRange x × IsOther x xs × AreOptions xs
 
--- what the options of a run come to: the bound on its turns, whether its declarations count, and the watcher that is
--- told its events, if one is asked for
+-- what the options of a run come to: the bound on its turns, whether its declarations count, whether the dump is asked for, and
+-- the watcher that is told its events, if one is asked for
 pub record Options : Type 0 where
   pub turns : ℕ
   pub based : Bool
+  pub dump : Bool
   pub watch : Option Asked
 
 abbrev pub default_options : Options
-default_options = record { turns = 2 ^ 63 - 1; based = true; watch = None }
+default_options = record { turns = 2 ^ 63 - 1; based = true; dump = false; watch = None }
 
 abbrev pub with_option : Options → RunOption → Options
 with_option options Unbased = record options { based = false }
+with_option options Dump = record options { dump = true }
 with_option options (Turns n) = record options { turns = n }
 with_option options (Watch asked) = record options { watch = Some asked }
 
@@ -136,18 +141,22 @@ HasFile (TellStop stop) file = ⊥
 HasFile (Debug based name) file = file ≡ name
 HasFile (Trial seed nodes) file = ⊥
 
--- A command runs what this file holds, a source or code. `turns` bounds the turns of the run, and `based` says whether
--- declarations count.
-abbrev pub RunsFile : Command → FileKind → List ℕ → ℕ → Bool → Type 0
-RunsFile (Run kind options name) what file turns based = (what ≡ kind) × (file ≡ name) × (turns ≡ options.turns) × (based ≡ options.based)
-RunsFile (Check name) what file turns based = ⊥
-RunsFile (Code name) what file turns based = ⊥
-RunsFile (Build name) what file turns based = ⊥
-RunsFile (Advise name) what file turns based = ⊥
-RunsFile (Explain name) what file turns based = ⊥
-RunsFile (TellStop stop) what file turns based = ⊥
-RunsFile (Debug counts name) what file turns based = ⊥
-RunsFile (Trial seed nodes) what file turns based = ⊥
+-- the run tells its dump: it is asked for, and declarations count
+abbrev pub dumps : Options → Bool
+dumps options = options.dump && options.based
+
+-- A command runs what this file holds, a source or code. `turns` bounds the turns of the run, `based` says whether
+-- declarations count, and `dump` whether the dump is told.
+abbrev pub RunsFile : Command → FileKind → List ℕ → ℕ → (based dump : Bool) → Type 0
+RunsFile (Run kind options name) what file turns based dump = (what ≡ kind) × (file ≡ name) × (turns ≡ options.turns) × (based ≡ options.based) × (dump ≡ dumps options)
+RunsFile (Check name) what file turns based dump = ⊥
+RunsFile (Code name) what file turns based dump = ⊥
+RunsFile (Build name) what file turns based dump = ⊥
+RunsFile (Advise name) what file turns based dump = ⊥
+RunsFile (Explain name) what file turns based dump = ⊥
+RunsFile (TellStop stop) what file turns based dump = ⊥
+RunsFile (Debug counts name) what file turns based dump = ⊥
+RunsFile (Trial seed nodes) what file turns based dump = ⊥
 
 -- the watcher that a command asks for, if it asks for one
 abbrev pub watched_by : Command → Option Asked

@@ -5,7 +5,7 @@ ghost use Rattle.setl_top_words.specs.Words.{IsInRange, option_words};
 ghost use Rattle.setl_top_words.specs.code.Reading.{Leads, LeadsNowhere};
 
 use crate::number::read_number;
-use crate::single::{is_turns, is_unbased, is_watch};
+use crate::single::{is_dump, is_turns, is_unbased, is_watch};
 use crate::watching::read_watcher;
 use setl_top_options::{Given, RunOption};
 
@@ -20,6 +20,9 @@ fn read_option(words: &[String]) -> Option<(RunOption, &[String])>
     let (word, rest) = words.split_first()?;
     if is_unbased(word.as_str()) {
         return Some((RunOption::Unbased, rest));
+    }
+    if is_dump(word.as_str()) {
+        return Some((RunOption::Dump, rest));
     }
     let (value, rest) = rest.split_first()?;
     let option = read_valued(word.as_str(), value.as_str())?;

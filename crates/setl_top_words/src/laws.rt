@@ -11,13 +11,14 @@ pub fn one_command()
 
 /// Words of the plain form, and what they spell.
 pub fn plain_words()
-    ensures run { Spells (codes "run" ∷ codes "q" ∷ []) (Run Source (record { turns = 2 ^ 63 - 1; based = true; watch = None }) (codes "q")) }
-    ensures both { Spells (codes "run" ∷ codes "--turns" ∷ codes "50" ∷ codes "--unbased" ∷ codes "q" ∷ []) (Run Source (record { turns = 50; based = false; watch = None }) (codes "q")) }
-    ensures swapped { Spells (codes "run" ∷ codes "--unbased" ∷ codes "--turns" ∷ codes "0" ∷ codes "q" ∷ []) (Run Source (record { turns = 0; based = false; watch = None }) (codes "q")) }
-    ensures trace { Spells (codes "run" ∷ codes "--watch" ∷ codes "trace" ∷ codes "q" ∷ []) (Run Source (record { turns = 2 ^ 63 - 1; based = true; watch = Some Trace }) (codes "q")) }
-    ensures profile { Spells (codes "run" ∷ codes "--watch" ∷ codes "profile" ∷ codes "q" ∷ []) (Run Source (record { turns = 2 ^ 63 - 1; based = true; watch = Some Profile }) (codes "q")) }
-    ensures cover { Spells (codes "run" ∷ codes "--unbased" ∷ codes "--watch" ∷ codes "cover" ∷ codes "q" ∷ []) (Run Source (record { turns = 2 ^ 63 - 1; based = false; watch = Some Cover }) (codes "q")) }
-    ensures code_file { Spells (codes "exec" ∷ codes "--turns" ∷ codes "50" ∷ codes "q" ∷ []) (Run CodeFile (record { turns = 50; based = true; watch = None }) (codes "q")) }
+    ensures run { Spells (codes "run" ∷ codes "q" ∷ []) (Run Source (record { turns = 2 ^ 63 - 1; based = true; dump = false; watch = None }) (codes "q")) }
+    ensures both { Spells (codes "run" ∷ codes "--turns" ∷ codes "50" ∷ codes "--unbased" ∷ codes "q" ∷ []) (Run Source (record { turns = 50; based = false; dump = false; watch = None }) (codes "q")) }
+    ensures swapped { Spells (codes "run" ∷ codes "--unbased" ∷ codes "--turns" ∷ codes "0" ∷ codes "q" ∷ []) (Run Source (record { turns = 0; based = false; dump = false; watch = None }) (codes "q")) }
+    ensures trace { Spells (codes "run" ∷ codes "--watch" ∷ codes "trace" ∷ codes "q" ∷ []) (Run Source (record { turns = 2 ^ 63 - 1; based = true; dump = false; watch = Some Trace }) (codes "q")) }
+    ensures profile { Spells (codes "run" ∷ codes "--watch" ∷ codes "profile" ∷ codes "q" ∷ []) (Run Source (record { turns = 2 ^ 63 - 1; based = true; dump = false; watch = Some Profile }) (codes "q")) }
+    ensures cover { Spells (codes "run" ∷ codes "--unbased" ∷ codes "--watch" ∷ codes "cover" ∷ codes "q" ∷ []) (Run Source (record { turns = 2 ^ 63 - 1; based = false; dump = false; watch = Some Cover }) (codes "q")) }
+    ensures dump { Spells (codes "run" ∷ codes "--dump" ∷ codes "q" ∷ []) (Run Source (record { turns = 2 ^ 63 - 1; based = true; dump = true; watch = None }) (codes "q")) }
+    ensures code_file { Spells (codes "exec" ∷ codes "--turns" ∷ codes "50" ∷ codes "q" ∷ []) (Run CodeFile (record { turns = 50; based = true; dump = false; watch = None }) (codes "q")) }
     ensures check { Spells (codes "check" ∷ codes "q" ∷ []) (Check (codes "q")) }
     ensures debug { Spells (codes "debug" ∷ codes "q" ∷ []) (Debug true (codes "q")) }
     ensures unbased { Spells (codes "debug" ∷ codes "--unbased" ∷ codes "q" ∷ []) (Debug false (codes "q")) }

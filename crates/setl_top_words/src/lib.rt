@@ -1,6 +1,6 @@
 //! The words of the command line: their plain form, and what is told of other words.
 //!
-//! The commands are `run [--unbased] [--turns N] [--watch NAME] FILE`, `exec` with the same options, `check FILE`, `code
+//! The commands are `run [--unbased] [--dump] [--turns N] [--watch NAME] FILE`, `exec` with the same options, `check FILE`, `code
 //! FILE`, `build FILE`, `advise FILE`, `explain FILE`, `explain --stop NAME`, `debug [--unbased] FILE` and `trial SEED N`.
 //! `Spells` is their plain form, which `read_words` decides. Of other words `fault_text` tells what `clap` says, where it
 //! refuses them.

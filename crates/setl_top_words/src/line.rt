@@ -1,7 +1,7 @@
 //! The command line as `clap` is told of it.
 ghost use Rattle.std.specs.Prelude.{◌≡◌, false, IfOk};
 ghost use Rattle.clap.specs.Words.{App, Rule, app_of, rule_of, with_rule, with_subcommand};
-ghost use Rattle.setl_top_words.specs.Line.{unbased_rule, turns_rule, watch_rule, file_rule, seed_rule, nodes_rule, stop_rule, explained_rule, run_app, file_app, told_app, explain_app, debug_app, trial_app, empty_app, setl_app};
+ghost use Rattle.setl_top_words.specs.Line.{unbased_rule, dump_rule, turns_rule, watch_rule, file_rule, seed_rule, nodes_rule, stop_rule, explained_rule, run_app, file_app, told_app, explain_app, debug_app, trial_app, empty_app, setl_app};
 ghost use Rattle.setl_top_words.specs.code.Builds.{Builds};
 
 use clap::{Arg, ArgAction, Command, value_parser};
@@ -16,6 +16,17 @@ fn unbased<'a>(alloc: Global) -> Arg<'a>
         .long("unbased")
         .action(ArgAction::SetTrue)
         .help("Leave all declarations out of account")
+}
+
+/// The option `--dump`.
+fn dump<'a>(alloc: Global) -> Arg<'a>
+    ensures rule { rule_of result ≡ dump_rule }
+    ensures local { result.global ≡ false }
+{
+    Arg::new(alloc, "dump")
+        .long("dump")
+        .action(ArgAction::SetTrue)
+        .help("Tell the members of the bases and what the declared variables hold at the end")
 }
 
 /// The option `--turns`.
@@ -133,6 +144,7 @@ fn run<'a>(
 {
     let command = Command::new(alloc, name).about(about);
     let command = with_arg(Ok(command), unbased(alloc));
+    let command = with_arg(command, dump(alloc));
     let command = with_arg(command, turns(alloc));
     let command = with_arg(command, watch(alloc));
     with_arg(command, file(alloc, holds))

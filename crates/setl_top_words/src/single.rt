@@ -79,6 +79,13 @@ pub(crate) fn is_unbased(word: &str) -> bool
     word == "--unbased"
 }
 
+/// Whether a word is the option that asks for the dump.
+pub(crate) fn is_dump(word: &str) -> bool
+    ensures { IsTrue result ↔ (word.now ≡ codes "--dump") }
+{
+    word == "--dump"
+}
+
 /// Whether a word is the option whose value bounds the turns.
 pub(crate) fn is_turns(word: &str) -> bool
     ensures { IsTrue result ↔ (word.now ≡ codes "--turns") }

@@ -1,5 +1,5 @@
-use Rattle.setl_machine_layout.proofs.Entering.{members_are_entered}
+use Rattle.setl_machine_layout.proofs.Entering.{members_are_entered, stay_as_many}
 use Rattle.setl_machine_layout.proofs.bases_are_entered.Goals as goal
 
 pub returns : goal.returns
-returns c = members_are_entered c.places_are_named.ensures
+returns c = record { entered = members_are_entered c.places_are_named.ensures; many = stay_as_many }

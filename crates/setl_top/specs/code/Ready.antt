@@ -18,22 +18,23 @@ use Rattle.setl_top_status.specs.declared.status.Status.TheVariants as status
 use Rattle.setl_top_words.specs.declared.reading.FileKind.{FileKind}
 use Rattle.setl_top_words.specs.declared.reading.FileKind.TheVariants.{Source, CodeFile}
 use Rattle.setl_top.specs.Listings.{IsMarked}
-use Rattle.setl_top.specs.Runnable.{Runnable, OfProgram, OfCode, of_image, declared_by, Holds}
+use Rattle.setl_top.specs.Runnable.{Runnable, OfProgram, OfCode, of_image, bases_by, declared_by, Holds}
 use Rattle.setl_top.specs.code.Loads.{NotLoaded}
 use Rattle.setl_top.specs.code.Runs.{IsMeant}
 use Rattle.setl_top.specs.declared.ready.Ready.{Ready}
 
 -- the code runs what is to be run
 abbrev pub RunsFor : Runnable → RustCode → Type 0
-RunsFor (OfProgram p) code = IsMeant p × IsMarked p (plain_code code)
-RunsFor (OfCode c modes) code = (i : Image) × SoundImage i × (OfCode c modes ≡ of_image i) × (plain_code code ≡ c)
+RunsFor (OfProgram names p) code = IsMeant p × IsMarked p (plain_code code)
+RunsFor (OfCode names c modes) code = (i : Image) × SoundImage i × (OfCode names c modes ≡ of_image i) × (plain_code code ≡ c)
 
--- code and declarations that are ready to run
+-- code, the names of its bases and its declarations that are ready to run
 pub record IsReady (r : Runnable) (ready : Ready) : Type 0 where
   pub may_run : MayRun ready.code
   pub bare : IsBare (plain_code ready.code)
   pub main : AreOfMain (map plain_declared ready.declared)
   pub runs : RunsFor r ready.code
+  pub bases : map (λ b. b.name) ready.bases ≡ bases_by r
   pub declared : map plain_declared ready.declared ≡ declared_by r
 
 -- what a file holds was made ready

@@ -15,7 +15,8 @@ use Rattle.setl_top.specs.Headline.{IsInput, IsLeft}
 use Rattle.setl_top.specs.Runnable.{Runnable, declared_by, Meant, IsAt, Printing, Reading}
 use Rattle.setl_top_status.specs.Seen.{Seen, CountRose, CountStays}
 use Rattle.setl_watch.specs.Watches.{Watched, told_all}
-use Rattle.setl_top_words.specs.Words.{Options}
+use Rattle.setl_top.specs.Watching.{headed}
+use Rattle.setl_top_words.specs.Words.{Options, dumps}
 
 -- what is seen of the input and of the output, and the watchers of a run
 pub record Streams : Type 0 where
@@ -37,7 +38,8 @@ abbrev pub counted : Options → Runnable → Modes
 counted asked r = if asked.based then declared_by r else []
 
 -- the run came to this end of the meaning, whose output is added, and left what the meaning's last state has of the
--- input, which is a state that it reaches; the watchers were told its events
+-- input, which is a state that it reaches; the watchers were told its events, and the dump stands before the reports where it is
+-- asked for
 pub record RunsTo (r : Runnable) (asked : Options) (before after : Streams) (end : run.End) : Type 0 where
   pub input : List ℕ
   pub known : IsInput before.input.held input
@@ -48,7 +50,7 @@ pub record RunsTo (r : Runnable) (asked : Options) (before after : Streams) (end
   pub gained : Appends before.output.held after.output.held out
   pub input_count : CountStays before.input after.input
   pub out_count : CountStays before.output after.output
-  pub told : after.watchers ≡ told_all means.events before.watchers
+  pub told : after.watchers ≡ headed (if dumps asked then means.dump else []) (told_all means.events before.watchers)
 
 -- the run was broken off in a print: the output up to it is added, and some of its line
 pub record RunsInto (r : Runnable) (asked : Options) (before after : Streams) : Type 0 where

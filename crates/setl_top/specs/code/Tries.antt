@@ -1,5 +1,5 @@
 -- What becomes of a trial.
-use Rattle.std.specs.Prelude.{◌≡◌, ◌-◌, ◌^◌, ℕ, Bool, true, List, [], ◌∷◌, ◌++◌, None}
+use Rattle.std.specs.Prelude.{◌≡◌, ◌-◌, ◌^◌, ℕ, Bool, true, false, List, [], ◌∷◌, ◌++◌, None}
 use Rattle.setl_model.specs.Means.{Means}
 use Rattle.setl_machine_control.specs.Answers.{kind_of}
 use Rattle.setl_machine_control.specs.declared.end.End.{End}
@@ -26,18 +26,19 @@ use Rattle.setl_top_words.specs.Words.{Options}
 
 -- the options of a run of a trial
 abbrev pub trial_options : Bool → Options
-trial_options based = record { turns = 2 ^ 63 - 1; based = based; watch = None }
+trial_options based = record { turns = 2 ^ 63 - 1; based = based; dump = false; watch = None }
 
 -- the program of a trial is ready to run
 pub record IsTrial (ready : Ready) : Type 0 where
   pub program : Program
   pub accepted : Accepted trial_source program
-  pub is_ready : IsReady (OfProgram program) ready
+  pub bases : List (List ℕ)
+  pub is_ready : IsReady (OfProgram bases program) ready
 
 -- a run of this program on an input in memory, with its declarations or without, printed this and ended so in the machine
 abbrev pub RunEnds : Program → List ℕ → Bool → List ℕ → End → Type 0
 RunEnds program input based printed end.Done = Means program input (2 ^ 63 - 1) based printed run.Done
-RunEnds program input based printed (end.Stopped why line) = Means program input (2 ^ 63 - 1) based printed (run.Stopped (kind_of (counted (trial_options based) (OfProgram program)) why) line)
+RunEnds program input based printed (end.Stopped why line) = Means program input (2 ^ 63 - 1) based printed (run.Stopped (kind_of (counted (trial_options based) (OfProgram [] program)) why) line)
 RunEnds program input based printed end.Spent = Means program input (2 ^ 63 - 1) based printed run.Spent
 RunEnds program input based printed end.ReadFault = ⊥
 RunEnds program input based printed end.WriteFault = ⊥

@@ -5,7 +5,7 @@ use Rattle.setl_top_words.specs.declared.reading.Command.{Command}
 use Rattle.setl_top_words.specs.declared.reading.Command.TheVariants as asked
 
 abbrev pub options_now : Options → words.Options
-options_now options = record { turns = options.turns; based = options.based; watch = options.watch }
+options_now options = record { turns = options.turns; based = options.based; dump = options.dump; watch = options.watch }
 
 abbrev pub command_of : Command → words.Command
 command_of (asked.Run kind options name) = words.Run kind (options_now options) name.now

@@ -12,6 +12,9 @@ use Rattle.setl_top.proofs.debugging.follow_source.Goals as goal
 pub returns-in_default : goal.returns-in_default
 returns-in_default g c = rw c.break_off.ensures.tried.0 (starved_first _ _ _ _ c.break_off.ensures.tried.1)
 
+pub returns-in_default-bases_named : goal.returns-in_default-bases_named
+returns-in_default-bases_named g c = rw c.break_off-in_default-bases_named.ensures.tried.0 (starved_first _ _ _ _ c.break_off-in_default-bases_named.ensures.tried.1)
+
 pub follow-requires : goal.follow-requires
 follow-requires g c =
     let tree = c.args.source.tree in

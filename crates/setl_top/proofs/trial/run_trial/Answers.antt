@@ -1,4 +1,5 @@
-use Rattle.std.proofs.Common.{refl}
+use Rattle.std.proofs.Common.{map, refl}
+use Rattle.setl_modes.specs.Declarations.{bases_of}
 use Rattle.setl_program.specs.ProgramOf.{program_of}
 use Rattle.setl_top.specs.Trials.{trial_source}
 use Rattle.setl_top.proofs.Accepting.{is_accepted}
@@ -24,6 +25,7 @@ try_program-requires g c =
     record {
       trial = record {
         program = program_of c.in-Ok.source.tree;
+        bases = map (λ b. b.0) (bases_of c.in-Ok.source.tree.modes);
         accepted = record { tree = c.in-Ok.source.tree; is_program = checked.is_program; meaning = refl };
         is_ready = c.in-Ok-ready_of_source.ensures;
       };

@@ -6,11 +6,11 @@ use Rattle.setl_top_words.specs.Words.{IsInRange, IsFaulty, SpellsTrial, option_
 use Rattle.setl_top_words.specs.declared.reading.FileKind.TheVariants.{Source}
 use Rattle.setl_top_options.specs.code.Given.{with_given, is_nothing}
 use Rattle.setl_top_options.specs.declared.given.RunOption.{RunOption}
-use Rattle.setl_top_options.specs.declared.given.RunOption.TheVariants.{Unbased, Turns, Watch}
+use Rattle.setl_top_options.specs.declared.given.RunOption.TheVariants.{Unbased, Dump, Turns, Watch}
 use Rattle.setl_top_options.specs.declared.watching.Asked.{Asked}
 use Rattle.setl_top_options.specs.declared.watching.Asked.TheVariants.{Trace, Cover, Profile}
 use Rattle.setl_top_words.specs.code.Reading.{LeadsNowhere}
-use Rattle.setl_top_words.proofs.Order.{turns_or_watch, head_of, tail_of, nowhere_on, nowhere_again, nowhere_else}
+use Rattle.setl_top_words.proofs.Order.{turns_or_watch, dump_or_turns, dump_or_watch, head_of, tail_of, nowhere_on, nowhere_again, nowhere_else}
 use Rattle.setl_top_words.proofs.Commands.{no_end, few_are_faulty, run_is_faulty, dash_is_faulty, debug_is_faulty, trial_is_faulty, two_numbers}
 use Rattle.setl_top_words.proofs.laws.faulty_words.Goals as goal
 
@@ -39,6 +39,7 @@ no_turns behind none = nowhere_else is_nothing _ (λ e. absurd (omega (arith, ap
   where
     no_option : (a : RunOption) (rest : List (List ℕ)) → IsInRange a → codes "--turns" ∷ behind ≡ option_words a ++ rest → ⊥
     no_option Unbased rest i e = unbased_or_turns (head_of _ _ _ _ e)
+    no_option Dump rest i e = dump_or_turns (sym (head_of _ _ _ _ e))
     no_option (Turns n) rest i e = none n rest i (tail_of _ _ _ _ e)
     no_option (Watch a) rest i e = turns_or_watch (head_of _ _ _ _ e)
 
@@ -48,6 +49,7 @@ no_watcher behind none = nowhere_else is_nothing _ (λ e. absurd (omega (arith, 
   where
     no_option : (a : RunOption) (rest : List (List ℕ)) → codes "--watch" ∷ behind ≡ option_words a ++ rest → ⊥
     no_option Unbased rest e = watch_or_unbased (head_of _ _ _ _ e)
+    no_option Dump rest e = dump_or_watch (sym (head_of _ _ _ _ e))
     no_option (Turns n) rest e = turns_or_watch (sym (head_of _ _ _ _ e))
     no_option (Watch a) rest e = none a rest (tail_of _ _ _ _ e)
 

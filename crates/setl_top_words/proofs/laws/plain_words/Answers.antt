@@ -2,7 +2,7 @@ use Rattle.std.proofs.Common.{◌≡◌, [], ◌∷◌, ◌++◌, codes, decimal
 use Rattle.std.specs.Fmt.{digits}
 use Rattle.std.specs.List.{flat_map}
 use Rattle.setl_top_words.specs.Words.{IsFile, option_words}
-use Rattle.setl_top_options.specs.declared.given.RunOption.TheVariants.{Unbased, Turns, Watch}
+use Rattle.setl_top_options.specs.declared.given.RunOption.TheVariants.{Unbased, Dump, Turns, Watch}
 use Rattle.setl_top_options.specs.declared.watching.Asked.TheVariants.{Trace, Cover, Profile}
 use Rattle.setl_top_words.proofs.laws.plain_words.Goals as goal
 
@@ -33,6 +33,7 @@ returns c = record {
   trace = record { given = Watch Trace ∷ []; spelled = refl; valid = (tt, tt, tt); file = is_file; means = refl };
   profile = record { given = Watch Profile ∷ []; spelled = refl; valid = (tt, tt, tt); file = is_file; means = refl };
   cover = record { given = Unbased ∷ Watch Cover ∷ []; spelled = refl; valid = (tt, (λ x. x, tt), (tt, tt, tt)); file = is_file; means = refl };
+  dump = record { given = Dump ∷ []; spelled = refl; valid = (tt, tt, tt); file = is_file; means = refl };
   code_file = record { given = Turns 50 ∷ []; spelled = code_file; valid = (omega arith, tt, tt); file = is_file; means = refl };
   check = (refl, is_file);
   debug = (refl, is_file);

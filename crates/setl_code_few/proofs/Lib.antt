@@ -1,0 +1,17 @@
+pub mod Sizes
+pub mod Pieces
+pub mod CodeExpressions
+pub mod CodeStatements
+pub mod Occurring
+pub mod Languages
+pub mod Parts
+pub mod Selections
+pub mod Statements
+pub mod Trees
+pub mod StatementTrees
+pub mod GrammarOfExpressions
+pub mod GrammarOfStatements
+pub mod GrammarOfPrograms
+pub mod Whole
+pub mod Marking
+pub mod Bytes
