@@ -5,5 +5,6 @@ pub mod Counted
 pub mod DatumOf
 pub mod Falls
 pub mod HashInput
+pub mod Lead
 pub mod Places
 pub mod Sought

@@ -73,6 +73,9 @@ pub struct TupleBody {
     // Where the components begin in the list. Those before were taken off.
     start: usize,
     deep: u32,
+    // The first component where it is an integer that i32 has, so that most pairs are compared without a look at their
+    // list, and `NO_LEAD` otherwise.
+    lead: i32,
 }
 
 impl Model for SetBody {
@@ -128,12 +131,13 @@ impl Model for TupleBody {
     ghost coded = { coded_list (coded_option coded_datum) };
 
     ghost use Rattle.setl_value.specs.code.DatumOf.{part};
+    ghost use Rattle.setl_value.specs.code.Lead.{IsLead};
     ghost use Rattle.setl_value.specs.WellFormed.{IsTupleList};
 
     ghost view = { λ s. map part (drop s.start s.parts.value.items) };
 
     // What was taken off isn't deeper than what is left.
-    ghost invariant = { λ s. IsTupleList (map part (drop s.start s.parts.value.items)) × (s.deep ≡ depth (tuple_of (map part (drop s.start s.parts.value.items)))) × (depth (tuple_of (map part s.parts.value.items)) ≤ s.deep) × (s.start ≤ length s.parts.value.items) };
+    ghost invariant = { λ s. IsTupleList (map part (drop s.start s.parts.value.items)) × (s.deep ≡ depth (tuple_of (map part (drop s.start s.parts.value.items)))) × (depth (tuple_of (map part s.parts.value.items)) ≤ s.deep) × (s.start ≤ length s.parts.value.items) × IsLead s.lead (map part (drop s.start s.parts.value.items)) };
 
     ghost size = { λ ps. 2 * depth (tuple_of ps) };
 

@@ -75,8 +75,30 @@ impl Value {
 impl TupleBody {
     /// How two tuples stand in the canonical order.
     #[cycle(comparing)]
-    #[inline(never)]
+    #[inline]
     pub fn compare(&self, other: &TupleBody) -> Ordering
+        ensures { result ≡ slice_cmp (option_cmp datum_cmp) self.now other.now }
+    {
+        match self.compare_leads(other) {
+            Some(unequal) => unequal,
+            None => self.compare_lists(other),
+        }
+    }
+
+    // How two tuples stand where they keep unlike first components, and None elsewhere.
+    #[inline(always)]
+    fn compare_leads(&self, other: &TupleBody) -> Option<Ordering>
+        ensures { IfSome result (λ o. o ≡ slice_cmp (option_cmp datum_cmp) self.now other.now) }
+    {
+        let a = self.lead()?;
+        let b = other.lead()?;
+        if a == b { None } else { Some(a.cmp(&b)) }
+    }
+
+    // As `compare`, which comes here where what the tuples keep beside their lists doesn't decide.
+    #[cycle(comparing)]
+    #[inline(never)]
+    fn compare_lists(&self, other: &TupleBody) -> Ordering
         ensures { result ≡ slice_cmp (option_cmp datum_cmp) self.now other.now }
     {
         let parts = &self.parts[self.start..];
@@ -92,7 +114,7 @@ impl TupleBody {
         parts.len().cmp(&others.len())
     }
 
-    // As `compare`, which comes here at the first components that aren't both integers.
+    // As `compare_lists`, which comes here at the first components that aren't both integers.
     #[cycle(comparing)]
     #[inline(never)]
     fn compare_any(&self, other: &TupleBody) -> Ordering
@@ -162,9 +184,12 @@ fn compare_parts(a: &Option<Value>, b: &Option<Value>) -> Ordering
 fn starts_below(t: &TupleBody, x: &Value) -> bool
     ensures { result ≡ is_lt (datum_cmp (tuple_of t.now) (point (datum x.now))) }
 {
-    match t.at(0) {
-        Some(v) => v.compare(x).is_lt(),
-        None => true,
+    match (t.lead(), x) {
+        (Some(n), Value::Int(z)) => i128::from(n) < *z,
+        _ => match t.at(0) {
+            Some(v) => v.compare(x).is_lt(),
+            None => true,
+        },
     }
 }
 

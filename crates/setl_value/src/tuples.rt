@@ -5,14 +5,18 @@ ghost use Rattle.std.specs.Prelude.{◌≡◌, ◌<◌, ◌≤◌, ◌+◌, ◌-
 ghost use Rattle.std.specs.Fn.{FnOnceReturnsAtMut};
 ghost use Rattle.std.specs.List.{remove, AllByRecursion};
 ghost use Rattle.setl_value.specs.code.Changing.{Grows, Leaves};
-ghost use Rattle.setl_value.specs.Datum.{Datum, depth, part_depth, tuple_of};
+ghost use Rattle.setl_value.specs.Datum.{Datum, int, depth, part_depth, tuple_of};
 ghost use Rattle.setl_value.specs.code.DatumOf.{datum, part};
+ghost use Rattle.setl_value.specs.code.Lead.{IsLead};
 ghost use Rattle.setl_value.specs.WellFormed.{IsTupleList, PartIsWellFormed, trim, put};
 
 use crate::{TupleBody, Value};
 use setl_value_pages::{append_in, drop_front, take_first};
 use std::alloc::{AllocError, Global};
 use std::rc::Rc;
+
+// Stands where a tuple keeps nothing of its first component.
+const NO_LEAD: i32 = i32::MIN;
 
 impl TupleBody {
     /// The tuple of these components, without the `om` at their end. It is at most 500 deep.
@@ -24,10 +28,12 @@ impl TupleBody {
         learn_parts(parts.as_slice());
         trim_end(&mut parts, 0);
         let deep = depth_of(parts.as_slice(), 500);
+        let lead = lead_of(parts.as_slice());
         Ok(TupleBody {
             parts: Rc::new(alloc, parts)?,
             start: 0,
             deep,
+            lead,
         })
     }
 
@@ -62,6 +68,7 @@ impl TupleBody {
         self.start = settled(&mut self.parts, self.start, self.deep, gone, came)?;
         put_part(&mut self.parts, self.start, i, v)?;
         self.deep = depth_after(from(&self.parts, self.start), self.deep, gone, came);
+        self.lead = lead_of(from(&self.parts, self.start));
         Ok(())
     }
 
@@ -88,6 +95,7 @@ impl TupleBody {
             Some(answer) => {
                 let came = depth_at(from(&self.parts, self.start), i);
                 self.deep = self.deep.max(came + 1);
+                self.lead = lead_of(from(&self.parts, self.start));
                 Ok(Some(answer))
             }
         }
@@ -101,6 +109,7 @@ impl TupleBody {
         let deep = other.deep;
         append_in(&mut self.parts, from(&other.parts, other.start))?;
         self.deep = self.deep.max(deep);
+        self.lead = lead_of(from(&self.parts, self.start));
         Ok(())
     }
 
@@ -118,9 +127,11 @@ impl TupleBody {
             drop_front(&mut self.parts, self.start + 1)?;
             self.start = 0;
             self.deep = deep;
+            self.lead = lead_of(from(&self.parts, 0));
             Ok(first)
         } else {
             let first = take_first(&mut self.parts, &mut self.start)?;
+            self.lead = lead_of(from(&self.parts, self.start));
             Ok(first)
         }
     }
@@ -136,6 +147,7 @@ impl TupleBody {
         self.start = settled(&mut self.parts, self.start, self.deep, gone, 0)?;
         let last = cut_last(&mut self.parts, self.start)?;
         self.deep = depth_after(from(&self.parts, self.start), self.deep, gone, 0);
+        self.lead = lead_of(from(&self.parts, self.start));
         Ok(last)
     }
 
@@ -154,7 +166,20 @@ impl TupleBody {
             parts: self.parts.clone()?,
             start: self.start,
             deep: self.deep,
+            lead: self.lead,
         })
+    }
+
+    // The first component, where the tuple keeps it beside the list.
+    #[inline(always)]
+    pub(crate) fn lead(&self) -> Option<i32>
+        ensures { IfSome result (λ n. slice_get self.now 0 ≡ Some (Some (int n))) }
+    {
+        if self.lead == NO_LEAD {
+            None
+        } else {
+            Some(self.lead)
+        }
     }
 
     /// Has no effect: it hands a proof what is true of every tuple, that its components are values or `om`, the last
@@ -398,6 +423,16 @@ fn depth_at(parts: &[Option<Value>], i: usize) -> u32
             learn_part(p);
             depth_of_part(p)
         }
+    }
+}
+
+// What a tuple of these components keeps of the first one.
+fn lead_of(parts: &[Option<Value>]) -> i32
+    ensures { IsLead result (map part parts.now) }
+{
+    match parts.first() {
+        Some(Some(Value::Int(z))) => i32::try_from(*z).unwrap_or(NO_LEAD),
+        _ => NO_LEAD,
     }
 }
 

@@ -20,8 +20,8 @@ Value::compare_any-returns-in-Tuple-Tuple t c = rw (c.in-Tuple-Tuple.is-0, c.in-
 pub Value::compare_any-returns-in-Set-Set : goal.Value::compare_any-returns-in-Set-Set
 Value::compare_any-returns-in-Set-Set t c = rw (c.in-Set-Set.is-0, c.in-Set-Set.is-1) (c.compare-in-Set-Set.ensures ∙ sym (elements_cmp_as_lists (Members c.in-Set-Set.a) (Members c.in-Set-Set.b)))
 
-pub TupleBody::compare-returns : goal.TupleBody::compare-returns
-TupleBody::compare-returns t c =
+pub TupleBody::compare_lists-returns : goal.TupleBody::compare_lists-returns
+TupleBody::compare_lists-returns t c =
     let rest : (v : List (Option Value)) (s : ℕ) → take (length v - s) (drop s v) ≡ drop s v = λ v s. take_all (length v - s) (drop s v) (omega (arith, length-drop s v)) in
     let v = c.deref-2.result.now in
     let w = c.deref-4.result.now in

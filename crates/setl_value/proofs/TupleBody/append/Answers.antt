@@ -1,5 +1,6 @@
 use Rattle.std.proofs.Common.{◌≡◌, ◌∙◌, ap, arith, sym, subst, map, drop}
 use Rattle.setl_value.specs.code.DatumOf.{part}
+use Rattle.setl_value.proofs.Leads.{lead_kept}
 use Rattle.setl_value.specs.WellFormed.{IsTupleList}
 use Rattle.setl_value.proofs.Fronts.{deep_of, tuple_append, behind_appended, deep_behind, deep_appended, long_appended}
 use Rattle.setl_value.proofs.TupleBody.append.Goals as goal
@@ -18,4 +19,5 @@ invariant_of-self-2 c =
       omega (arith, c.max-self-inside.ensures, deep_behind s xs more ys within appended, c.self.invariant.1, deep),
       omega (arith, c.max-self-inside.ensures, deep_appended s xs more ys within appended, c.self.invariant.2, deep),
       long_appended s xs more ys within appended,
+      lead_kept c.lead_of-self-inside.result _ _ (record { sfits = c.lead_of-self-inside.type_inv }) c.lead_of-self-inside.ensures (c.from-2.ensures ∙ ap (drop s) (c.deref-4.ensures.value ∙ ap (λ v. v.items) c.deref-3.ensures)),
     )

@@ -6,6 +6,7 @@ use Rattle.std.proofs.lemmas.Option.{slice_get-map}
 use Rattle.setl_value.specs.declared.Value.{Value}
 use Rattle.setl_value.specs.Datum.{part_depth}
 use Rattle.setl_value.specs.code.DatumOf.{datum, part}
+use Rattle.setl_value.proofs.Leads.{lead_kept}
 use Rattle.setl_value.specs.WellFormed.{PartIsWellFormed}
 use Rattle.setl_value.proofs.Changing.{was, now, is, holds, get_behind}
 use Rattle.setl_value.proofs.TupleBody.change_at.Goals as goal
@@ -25,8 +26,15 @@ invariant_of-self-in-Some g c =
     let grows = c.requires.grows (datum v) before c.in-Some.answer (datum w) (record { before = v; after = w; was = refl; met = e.3; is = refl }) in
     let left = ap (map part) (c.from.ensures ∙ ap (drop s) (c.deref-in-Some.ensures.value ∙ ap (λ l. l.items) c.deref.ensures)) in
     let after = ap (λ l. unwrap_or (slice_get l i) None) left ∙ ap (λ o. unwrap_or o None) (is xs ys s i v w there written) in
+    let held =
     holds xs ys s i v w there written c.self.inside.deep c.max-self-inside.result c.self.invariant.0 c.self.invariant.1 c.self.invariant.2 c.self.invariant.3
-    (subst PartIsWellFormed after c.depth_at-came.ensures.stands) grows.0 grows.1 (omega (arith, c.max-self-inside.ensures, c.depth_at-came.ensures.depth, ap part_depth after))
+    (subst PartIsWellFormed after c.depth_at-came.ensures.stands) grows.0 grows.1 (omega (arith, c.max-self-inside.ensures, c.depth_at-came.ensures.depth, ap part_depth after)) in (
+      held.0,
+      held.1,
+      held.2,
+      held.3,
+      lead_kept c.lead_of-self-inside.result _ _ (record { sfits = c.lead_of-self-inside.type_inv }) c.lead_of-self-inside.ensures (c.from-in-Some.ensures ∙ ap (drop s) (c.deref-in-Some-3.ensures.value ∙ ap (λ v. v.items) c.deref-in-Some-2.ensures)),
+    )
 
 pub returns-in-None-clause-nothing : goal.returns-in-None-clause-nothing
 returns-in-None-clause-nothing g c =

@@ -6,6 +6,7 @@ use Rattle.setl_value.proofs.Fronts.{deep_of, end_taken, end_cut, settles}
 use Rattle.setl_value.proofs.Trim.{tuple_remove}
 use Rattle.setl_value.specs.Datum.{Datum, depth, part_depth, tuple_of}
 use Rattle.setl_value.specs.code.DatumOf.{part}
+use Rattle.setl_value.proofs.Leads.{lead_kept}
 use Rattle.setl_value.specs.WellFormed.{IsTupleList, trim}
 use Rattle.setl_value.proofs.TupleBody.cut_back.Goals as goal
 
@@ -54,6 +55,7 @@ invariant_of-self-2 c =
       settles s ys c.depth_after-self-inside.result c.self.inside.deep c.depth_at-gone.result 0 c.in_ok-self-inside.ensures.settled deep
           (omega (arith, fell, deep)) (omega (arith, deep)) (omega (arith, c.in_ok-last.ensures.shallow, c.in_ok-self-inside.ensures.shallow, c.self.invariant.2)),
       c.in_ok-last.ensures.inside,
+      lead_kept c.lead_of-self-inside.result _ _ (record { sfits = c.lead_of-self-inside.type_inv }) c.lead_of-self-inside.ensures (c.from-3.ensures ∙ ap (drop s) (c.deref-6.ensures.value ∙ ap (λ v. v.items) c.deref-5.ensures)),
     )
 
 pub returns-clause-taken : goal.returns-clause-taken

@@ -4,6 +4,7 @@ use Rattle.std.proofs.lemmas.List.{length-drop}
 use Rattle.setl_value.specs.Datum.{Datum, depth, part_depth, tuple_of}
 use Rattle.std.specs.Prelude.{slice_get, unwrap_or, None}
 use Rattle.setl_value.specs.code.DatumOf.{part}
+use Rattle.setl_value.proofs.Leads.{lead_kept}
 use Rattle.setl_value.specs.WellFormed.{IsTupleList}
 use Rattle.setl_value.proofs.Fronts.{behind_front, deep_of, drop_less, drop_one, front_depth, left_less, left_long, tuple_tail}
 use Rattle.setl_value.proofs.TupleBody.cut_front.Goals.{then-deep-self, else-deep-self}
@@ -43,6 +44,7 @@ invariant_of-self-else-self-len c =
       deep,
       omega (arith, left_less xs ys s c.take_first.ensures.left, c.self.invariant.2),
       omega (arith, left_long xs ys s c.take_first.ensures.left, c.in_ok-first-2.ensures.next, ap length taken, length-drop s xs),
+      lead_kept c.lead_of-self-inside-else-self-len.result _ _ (record { sfits = c.lead_of-self-inside-else-self-len.type_inv }) c.lead_of-self-inside-else-self-len.ensures (c.from-else-self-len.ensures ∙ ap (drop t) (c.deref-else-self-len-2.ensures.value ∙ ap (λ v. v.items) c.deref-else-self-len.ensures)),
     )
 
 pub returns-in_ok-first-2-clause-cut : goal.returns-in_ok-first-2-clause-cut

@@ -5,6 +5,7 @@ use Rattle.setl_value.proofs.Fronts.{deep_of, settles}
 use Rattle.setl_value.proofs.Trim.{tuple_put, trim_depth}
 use Rattle.setl_value.specs.Datum.{depth, part_depth, tuple_of}
 use Rattle.setl_value.specs.code.DatumOf.{part}
+use Rattle.setl_value.proofs.Leads.{lead_kept}
 use Rattle.setl_value.specs.WellFormed.{IsTupleList, trim, put}
 use Rattle.setl_value.proofs.TupleBody.put_at.Goals as goal
 
@@ -59,4 +60,5 @@ invariant_of-self-2 c =
           (omega (arith, part_in_tuple ps i p, after, c.depth_of_part-came.ensures.depth))
           (omega (arith, c.in_ok-put_part.ensures.shallow, c.in_ok-self-inside.ensures.shallow, c.self.invariant.2, c.depth_of_part-came.ensures.depth)),
       c.in_ok-put_part.ensures.inside,
+      lead_kept c.lead_of-self-inside.result _ _ (record { sfits = c.lead_of-self-inside.type_inv }) c.lead_of-self-inside.ensures (c.from-3.ensures ∙ ap (drop s) (c.deref-6.ensures.value ∙ ap (λ v. v.items) c.deref-5.ensures)),
     )
