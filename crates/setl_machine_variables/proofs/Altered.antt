@@ -15,30 +15,28 @@ use Rattle.setl_model.specs.Core.{Selected}
 use Rattle.setl_model.specs.Places.{Taken, TakesOut, IsEmpty, CannotTake, part_at_all, with_part_at_all, take_out}
 use Rattle.setl_model.specs.World.{World}
 use Rattle.setl_program.specs.declared.kinds.Taking.{Taking}
-use Rattle.setl_code.specs.declared.code.Alteration as declared
 use Rattle.setl_code.specs.declared.code.Bracket.{Bracket}
 use Rattle.setl_code.specs.declared.code.Bracket.TheVariants as bracket
 use Rattle.setl_code.specs.declared.code.Slot.{Slot}
 use Rattle.setl_code.specs.declared.code.Slot.TheVariants as slot
 use Rattle.setl_code.specs.Code as plain
 use Rattle.setl_code.specs.Code.{Alteration, TakingOut, Code, Alter}
-use Rattle.setl_code.specs.Plain.{plain_code, plain_slot, plain_bracket, plain_alteration}
+use Rattle.setl_code.specs.Plain.{plain_code, plain_slot, plain_bracket}
 use Rattle.setl_code.specs.MayRun.{HasSlot}
-use Rattle.setl_code.specs.CodeCore.{Held, There, Gone, Cells, held, with_held, write, Operand, Result as Holds, value_of, Pops, popped, CodeCore}
-use Rattle.setl_code.specs.Machine.{machine, at_step, next, on_value, on_top, on_popped, on_held, with_outcome, store_in, store_whole, take_from, alter, selected_by}
+use Rattle.setl_code.specs.CodeCore.{Held, There, Gone, Cells, held, with_held, write, Operand, Result as Holds, value_of, CodeCore}
+use Rattle.setl_code.specs.Machine.{machine, at_step, next, on_value, on_top, on_held, with_outcome, store_in, store_whole, take_from, selected_by}
 use Rattle.setl_store.specs.Standing.{Standing, over, at_place, top_of, variables}
 use Rattle.setl_machine_updates.specs.Selectors.{selected}
 use Rattle.setl_machine_updates.specs.Takes.{TakesPart, TakesFrom, Takes}
 use Rattle.setl_machine_updates.specs.Updates.{Leaves, Updates}
 use Rattle.setl_machine_updates.specs.declared.selectors.Selector.{Selector}
 use Rattle.setl_machine_updates.specs.declared.taking.TakenOut.{TakenOut}
-use Rattle.setl_code_events.specs.Told.{value_held, popped_values}
 use Rattle.setl_machine_control.specs.Settling.{Settles, EndsUpdate}
-use Rattle.setl_machine_variables.specs.Altered.{stores_new, Alters, TakesHeld}
+use Rattle.setl_machine_variables.specs.Altered.{Alters, TakesHeld}
 use Rattle.setl_machine_control.specs.Control.{ControlState, world_of, in_world, stood_for}
 use Rattle.setl_machine_control.specs.Declaring.{Modes, tested, Keeps, IsDeclared}
 use Rattle.setl_machine_control.specs.Answers.{start, IsLikely, Quiet}
-use Rattle.setl_machine_control.specs.Working.{DoesBy, PopsTop, EndsBy, Halted}
+use Rattle.setl_machine_control.specs.Working.{PopsTop, EndsBy, Halted}
 use Rattle.setl_machine_control.specs.declared.declaration.Declaration.{Declaration}
 use Rattle.setl_machine_control.specs.declared.end.End.{End}
 use Rattle.setl_machine_control.specs.declared.end.End.TheVariants as end
@@ -411,45 +409,3 @@ takes_not modes old gone new from to line slot at end w w' kept g e takes told r
           subst (λ a. Quiet modes (settle (machine (plain_code old.code)) (tested modes) (start k) (on_held a (λ whole. taking (part_at_all at whole from.turns) end line x whole at xs k))) (stood_for new.core to rest) e) (sym (held_in_world x (world_of from rest) before old.core ∙ h.was))
           (update_stops modes old slot xs before (part w) kept gone new from to line g e rest (taking (part_at_all at (part w) from.turns) end line x (part w) at xs k) h same (reading_halts (part_at_all at (part w) from.turns) end line x (part w) (part w') at xs k g e told f.0)),
     )
-
--- ---- the whole instruction
-
--- where operands were popped, the variables are the same
-pub declared_popped : (modes : Modes) (old mid : Standing) (x : Slot) (d : Option Declaration) → mid ≡ record old { core = over mid.core.now.operands old.core } → IsDeclared modes (plain_slot (variables old.core) x) d → IsDeclared modes (plain_slot (variables mid.core) x) d
-declared_popped modes old mid x d m is = subst (λ (t : Standing). IsDeclared modes (plain_slot (variables t.core) x) d) (sym m) is
-
-altered : (modes : Modes) (old mid new : Standing) (from to : ControlState) (line : ℕ) (what : Alteration) (slot : Slot) (bs : List Bracket) (vs : List (Option Datum)) (e : End) →
-    popped (length bs) [] old.core.now.operands ≡ Pops vs mid.core.now.operands → mid ≡ record old { core = over mid.core.now.operands old.core } → Alters modes mid from line what (plain_slot (variables mid.core) slot) (selected_by (map plain_bracket bs) vs) new to e →
-    DoesBy modes old from line (Alter what (plain_slot (variables old.core) slot) (map plain_bracket bs)) new to e
-altered modes old mid new from to line what slot bs vs e p m a =
-    let xs = mid.core.now.operands in
-    let x = plain_slot (variables old.core) slot in
-    let at = selected_by (map plain_bracket bs) vs in
-    let b : Alters modes (record old { core = over xs old.core }) from line what x at new to e = subst (λ (t : Standing). Alters modes t from line what (plain_slot (variables t.core) slot) at new to e) m a in (
-      b.0,
-      λ rest.
-          let k = stood_for old.core from rest in
-          subst (λ q. Quiet modes (settle (machine (plain_code old.code)) (tested modes) (start k) (on_popped q (λ us ys. on_held (held x k) (λ whole. alter what line x whole (selected_by (map plain_bracket bs) us) ys k)))) (stood_for new.core to rest) e) (sym (ap (λ j. popped j [] old.core.now.operands) (length-map bs plain_bracket) ∙ p))
-          (b.1 old.core.now.operands rest),
-    )
-
--- the same by the alteration as the code has it
-pub altered_by : (modes : Modes) (old mid new : Standing) (from to : ControlState) (line : ℕ) (declared : declared.Alteration) (what : Alteration) (slot : Slot) (bs : List Bracket) (vs : List (Option Datum)) (at : List Selected) (e : End) →
-    popped (length bs) [] old.core.now.operands ≡ Pops vs mid.core.now.operands → mid ≡ record old { core = over mid.core.now.operands old.core } → at ≡ selected_by (map plain_bracket bs) vs → plain_alteration declared ≡ what → Alters modes mid from line what (plain_slot (variables mid.core) slot) at new to e →
-    DoesBy modes old from line (Alter (plain_alteration declared) (plain_slot (variables old.core) slot) (map plain_bracket bs)) new to e
-altered_by modes old mid new from to line declared what slot bs vs at e p m s is a =
-    subst (λ w. DoesBy modes old from line (Alter w (plain_slot (variables old.core) slot) (map plain_bracket bs)) new to e) (sym is)
-    (altered modes old mid new from to line what slot bs vs e p m (subst (λ ss. Alters modes mid from line what (plain_slot (variables mid.core) slot) ss new to e) s a))
-
--- whether something was taken out, by what the operands and the variable were before
-pub stores_popped : (old mid : Standing) (from : ControlState) (declared : declared.Alteration) (end : Taking) (slot : Slot) (bs : List Bracket) (vs : List (Option Datum)) (at : List Selected) (b : Bool) →
-    popped (length bs) [] old.core.now.operands ≡ Pops vs mid.core.now.operands → mid ≡ record old { core = over mid.core.now.operands old.core } → at ≡ selected_by (map plain_bracket bs) vs → plain_alteration declared ≡ TakingOut end → b ≡ stores_new (TakingOut end) (value_held (held (plain_slot (variables mid.core) slot) mid.core)) at from.turns →
-    b ≡ stores_new (plain_alteration declared) (value_held (held (plain_slot (variables old.core) slot) old.core)) (selected_by (map plain_bracket bs) (popped_values (popped (length (map plain_bracket bs)) [] old.core.now.operands))) from.turns
-stores_popped old mid from declared end slot bs vs at b p m s is h =
-    let x = plain_slot (variables old.core) slot in
-    let xs = mid.core.now.operands in
-    h
-    ∙ ap (λ (t : Standing). stores_new (TakingOut end) (value_held (held (plain_slot (variables t.core) slot) t.core)) at from.turns) m
-    ∙ ap (λ u. stores_new (TakingOut end) (value_held u) at from.turns) (held_in_world x old.core.world xs old.core)
-    ∙ ap (λ ss. stores_new (TakingOut end) (value_held (held x old.core)) ss from.turns) (s ∙ sym (ap (λ q. selected_by (map plain_bracket bs) (popped_values q)) (ap (λ j. popped j [] old.core.now.operands) (length-map bs plain_bracket) ∙ p)))
-    ∙ ap (λ a. stores_new a (value_held (held x old.core)) (selected_by (map plain_bracket bs) (popped_values (popped (length (map plain_bracket bs)) [] old.core.now.operands))) from.turns) (sym is)

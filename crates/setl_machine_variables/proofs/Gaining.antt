@@ -94,10 +94,6 @@ put_gains modes old mid put new slot d v ys m declared p n =
     let new_is = n ∙ ap (λ (s : Standing). record s { core = at_place (suc s.core.now.at) s.core }) put_is in
     stored_gains modes x d old new v (over ys old.core) (suc (write x (There v) (over ys old.core)).now.at) declared (ap (λ (s : Standing). s.core) new_is) (ap (λ (s : Standing). s.bases) new_is)
 
--- operands that were popped first make no difference
-pub popped_gains : (modes : Modes) (old mid new : Standing) (slot : Slot) (stored : Bool) (e : End) → mid ≡ record old { core = over mid.core.now.operands old.core } → GainsIf stored modes (plain_slot (variables mid.core) slot) mid new e → GainsIf stored modes (plain_slot (variables old.core) slot) old new e
-popped_gains modes old mid new slot stored e m g = subst (λ (t : Standing). GainsIf stored modes (plain_slot (variables t.core) slot) t new e) m g
-
 -- where nothing is entered all is as before, whether it is stored or not
 pub nothing_entered : (stored : Bool) (to old new : List Base) (e : End) → to ≡ old → new ≡ old → e ≡ end.Paused → BasesAre (cond stored to old) old new e
 nothing_entered true to old new e none same is = rw is (same ∙ sym none)

@@ -8,3 +8,4 @@ pub mod Freely
 pub mod InForm
 pub mod Members
 pub mod Gaining
+pub mod Popping

@@ -25,7 +25,7 @@ use Rattle.setl_code.specs.CodeCore.{There, CodeCore, held}
 use Rattle.setl_code.specs.Plain.{plain_slot}
 use Rattle.setl_code_declared.specs.Fitting.{Fitting}
 use Rattle.setl_code_declared.specs.Laws.{HeldFits}
-use Rattle.setl_store.specs.Standing.{Standing, over, variables}
+use Rattle.setl_store.specs.Standing.{Standing, variables}
 use Rattle.setl_machine_updates.specs.Takes.{TakesPart, TakesFrom, Takes}
 use Rattle.setl_machine_updates.specs.Updates.{Leaves, Updates}
 use Rattle.setl_machine_updates.specs.declared.taking.TakenOut.{TakenOut}
@@ -251,7 +251,3 @@ pub taken_sure : PartLaws → HeldFits → (modes : Modes) (old gone : Standing)
 taken_sure laws holds modes old gone x end d at w w' turns t declared fit takes sure formed h =
     still_taken holds modes old.core (plain_slot (variables old.core) x) d (part w) (part w') declared fit takes.0
     (rest_taken laws end (mode_by d) at (part w) (part w') turns t sure formed h)
-
--- where operands were popped, what declared variables hold is the same
-pub fitting_popped : (modes : Modes) (old mid : Standing) → mid ≡ record old { core = over mid.core.now.operands old.core } → Fitting modes old.core → Fitting modes mid.core
-fitting_popped modes old mid m f = subst (λ (t : Standing). Fitting modes t.core) (sym m) f

@@ -1,6 +1,6 @@
 //! Updates of variables in place.
 
-ghost use Rattle.std.specs.Prelude.{◌≡◌, ◌≤◌, ◌∷◌, [], true, Some, None, cond, map, option_map, length, IfOk};
+ghost use Rattle.std.specs.Prelude.{◌≡◌, ◌≤◌, ◌∷◌, [], true, false, Some, None, cond, map, option_map, length, IfOk};
 ghost use Rattle.setl_code.specs.Code.{Alter, Putting, Combining, TakingOut};
 ghost use Rattle.setl_code.specs.CodeCore.{held, popped};
 ghost use Rattle.setl_code.specs.Machine.{selected_by};
@@ -56,25 +56,68 @@ pub fn alter(
     ensures gained { IfOk result (λ updated. GainsIf updated.stored (modes_of declarations.now) (plain_slot (variables store.old.core) slot) store.old store.new updated.end) }
     ensures reader { control.new.reader ≡ control.old.reader }
 {
-    let declared = declarations.of_slot(slot, store);
-    let Some(values) = store.pop_values(brackets.len())? else {
-        return Ok(Updated {
-            end: End::Stuck,
-            stored: false,
-        });
+    let target = Target {
+        slot,
+        declared: declarations.of_slot(slot, store),
     };
-    let at = selectors(control.alloc(), brackets, values)?;
-    let target = Target { slot, declared };
+    match brackets.len() {
+        0 => alter_at(what, target, &[], line, store, control),
+        1 => match pop_top(store)? {
+            Some(value) => {
+                let at = [selector(brackets[0], value)];
+                alter_at(what, target, &at, line, store, control)
+            }
+            None => Ok(stuck()),
+        },
+        count => match store.pop_values(count)? {
+            Some(values) => {
+                let at = selectors(control.alloc(), brackets, values)?;
+                alter_at(what, target, at.as_slice(), line, store, control)
+            }
+            None => Ok(stuck()),
+        },
+    }
+}
+
+/// The end of an update that lacks an operand.
+fn stuck() -> Updated
+    ensures end { result.end ≡ End.Stuck }
+    ensures stored { result.stored ≡ false }
+{
+    Updated {
+        end: End::Stuck,
+        stored: false,
+    }
+}
+
+/// Does to the part of a variable at some selectors what the alteration says, as `alter` does.
+#[inline(never)]
+fn alter_at(
+    what: Alteration,
+    target: Target<'_>,
+    at: &[Selector],
+    line: u32,
+    store: &mut Store<'_>,
+    control: &mut Control,
+) -> Result<Updated, AllocError>
+    requires few { CanGoOn store.old }
+    requires there { HasSlot (length store.old.core.globals) (length store.old.core.now.own) target.slot }
+    requires can { CanAlter what }
+    ensures did { (modes : Modes) → IsDeclared modes (plain_slot (variables store.old.core) target.entry.slot) target.entry.declared → Fitting modes store.old.core → IfOk result (λ updated. Alters modes store.old control.old line (plain_alteration what) (plain_slot (variables store.old.core) target.entry.slot) (map selected at.now) store.new control.new updated.end) }
+    ensures stored { (modes : Modes) → IsDeclared modes (plain_slot (variables store.old.core) target.entry.slot) target.entry.declared → IfOk result (λ updated. updated.end ≡ End.Paused → updated.stored ≡ stores_new (plain_alteration what) (value_held (held (plain_slot (variables store.old.core) target.entry.slot) store.old.core)) (map selected at.now) control.old.turns) }
+    ensures gained { (modes : Modes) → IsDeclared modes (plain_slot (variables store.old.core) target.entry.slot) target.entry.declared → IfOk result (λ updated. GainsIf updated.stored modes (plain_slot (variables store.old.core) target.entry.slot) store.old store.new updated.end) }
+    ensures reader { control.new.reader ≡ control.old.reader }
+{
     match what {
         Alteration::Put => {
-            let end = put(target, at.as_slice(), line, store, control)?;
+            let end = put(target, at, line, store, control)?;
             Ok(Updated { end, stored: true })
         }
         Alteration::Combine(by) => {
-            let end = combine(by, target, at.as_slice(), line, store, control)?;
+            let end = combine(by, target, at, line, store, control)?;
             Ok(Updated { end, stored: true })
         }
-        Alteration::TakeOut(end) => take_out(end, target, at.as_slice(), line, store, control),
+        Alteration::TakeOut(end) => take_out(end, target, at, line, store, control),
     }
 }
 
@@ -151,10 +194,7 @@ fn take_out(
     ensures reader { control.new.reader ≡ control.old.reader }
 {
     let Some(mut whole) = take_held(target.slot, store)? else {
-        return Ok(Updated {
-            end: End::Stuck,
-            stored: false,
-        });
+        return Ok(stuck());
     };
     learn_laws(&whole);
     let sure = decides_taken(target.declared, at);
@@ -186,6 +226,7 @@ fn take_out(
 }
 
 /// What was kept for a test, which comes where a new whole is stored.
+#[inline(always)]
 fn tested_if(stored: bool, kept: Option<Option<Value>>) -> Option<Option<Value>>
     ensures { option_map part result ≡ cond stored (option_map part kept) None }
 {

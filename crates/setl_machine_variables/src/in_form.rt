@@ -158,8 +158,29 @@ fn takes_forms(store: &Store<'_>) -> bool
 
 /// `s with:= x` and `s less:= x`, where the variable holds a form in which that is done where it stands. Its answer is whether this
 /// was so, and else all is as before. The error is want of memory.
-#[inline(never)]
+#[inline(always)]
 pub(crate) fn update_in_form(
+    what: Alteration,
+    slot: Slot,
+    brackets: &[Bracket],
+    declarations: &Declarations<'_>,
+    store: &mut Store<'_>,
+) -> Result<bool, AllocError>
+    requires few { CanGoOn store.old }
+    requires there { HasSlot (length store.old.core.globals) (length store.old.core.now.own) slot }
+    requires serves { Serves declarations.now store.old }
+    ensures did { (line : ℕ) → IfOk result (λ done. WorksOrLeaves (modes_of declarations.now) store.old line (Alter (plain_alteration what) (plain_slot (variables store.old.core) slot) (map plain_bracket brackets.now)) store.new done) }
+    ensures gained { (turns : ℕ) → IfOk result (λ done. done ≡ true → GainsIf (stores_at (plain_alteration what) (plain_slot (variables store.old.core) slot) (map plain_bracket brackets.now) store.old.core turns) (modes_of declarations.now) (plain_slot (variables store.old.core) slot) store.old store.new End.Paused) }
+{
+    match store.slot(slot) {
+        Content::Based => update_form(what, slot, brackets, declarations, store),
+        Content::Om | Content::Taken | Content::Value(_) => Ok(false),
+    }
+}
+
+// The same of a variable that holds a form.
+#[inline(never)]
+fn update_form(
     what: Alteration,
     slot: Slot,
     brackets: &[Bracket],
@@ -206,7 +227,7 @@ fn change_of(by: Operator, x: Value) -> Option<Change>
     }
 }
 
-// The operator of an update without selectors, and the mode of the variable, where that holds a form.
+// The operator of an update without selectors, and the mode of the variable, where it is declared.
 fn combined_form<'p>(
     what: Alteration,
     slot: Slot,
@@ -214,7 +235,6 @@ fn combined_form<'p>(
     declarations: &Declarations<'p>,
     store: &Store<'_>,
 ) -> Option<(Operator, &'p Mode)>
-    requires there { HasSlot (length store.now.core.globals) (length store.now.core.now.own) slot }
     requires serves { Serves declarations.now store.now }
     ensures { IfSome result (λ c. (plain_alteration what ≡ Combining c.0) × (map plain_bracket brackets.now ≡ []) × (declared_mode (modes_of declarations.now) (plain_slot (variables store.now.core) slot) ≡ Some (mode_of c.1.now))) }
 {
@@ -224,10 +244,6 @@ fn combined_form<'p>(
     let count = brackets.len();
     if count > 0 {
         return None;
-    }
-    match store.slot(slot) {
-        Content::Based => {}
-        Content::Om | Content::Taken | Content::Value(_) => return None,
     }
     let Some(declaration) = declarations.of_slot(slot, store) else {
         return None;

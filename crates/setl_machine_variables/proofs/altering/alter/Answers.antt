@@ -1,102 +1,104 @@
-use Rattle.std.proofs.Common.{◌≡◌, ◌∙◌, true, [], map, length, ap}
-use Rattle.std.proofs.lemmas.Result.{IfOk-weaker}
+use Rattle.std.proofs.Common.{◌≡◌, ◌∙◌, Some, None, [], ◌∷◌, map, length, ap}
 use Rattle.setl_value.specs.code.DatumOf.{part}
-use Rattle.setl_code.specs.Code.{Putting, Combining, TakingOut, Alter}
-use Rattle.setl_code.specs.CodeCore.{popped, Pops, held}
-use Rattle.setl_code.specs.Plain.{plain_alteration, plain_bracket, plain_slot}
+use Rattle.setl_code.specs.declared.code.Bracket.TheVariants as bracket
+use Rattle.setl_code.specs.CodeCore.{popped, Pops, Lacks}
+use Rattle.setl_code.specs.Plain.{plain_alteration, plain_slot}
 use Rattle.setl_store.specs.Standing.{variables}
 use Rattle.setl_machine_updates.specs.Selectors.{selected}
-use Rattle.setl_code.specs.Machine.{selected_by}
-use Rattle.setl_code_events.specs.Told.{value_held, popped_values}
-use Rattle.setl_machine_variables.specs.Altered.{Alters, stores_new}
 use Rattle.setl_machine_control.specs.Declaring.{modes_of}
-use Rattle.setl_machine_control.specs.Working.{DoesBy}
-use Rattle.setl_machine_variables.specs.declared.altering.Updated.{Updated}
-use Rattle.setl_machine_control.specs.declared.end.End.TheVariants.{Paused}
-use Rattle.setl_machine_variables.proofs.Altered.{altered_by, stores_popped, declared_popped}
-use Rattle.setl_machine_variables.specs.Gaining.{GainsIf}
-use Rattle.setl_machine_variables.proofs.Gaining.{popped_gains}
-use Rattle.setl_machine_variables.proofs.Parts.{fitting_popped}
+use Rattle.setl_machine_control.specs.Working.{PopsTop}
+use Rattle.setl_machine_variables.proofs.Popping.{ArePopped, none_popped, one_popped, one_lacks, lacking_stuck, stuck_gains, did_popped, stored_popped, gained_popped}
 use Rattle.setl_machine_variables.proofs.altering.alter.Goals as goal
 
-pub returns-in-Put-clause-did : goal.returns-in-Put-clause-did
-returns-in-Put-clause-did c =
-    let old = c.args.store.now in
-    let mid = c.pop_values.new.self in
-    let modes = modes_of c.args.declarations.now in
-    let vs = map part c.in-Some.values.items in
-    let off : popped (length c.args.brackets.now) [] old.core.now.operands ≡ Pops (map part c.in-Some.values.items) mid.core.now.operands = rw c.in-Some.is at c.in_ok-values.ensures.values in
-    altered_by modes old mid c.put.new.store c.args.control.now c.put.new.control c.args.line c.args.what Putting c.args.slot c.args.brackets.now vs (map selected c.as_slice.result.now) c.in_ok-end-in-Put.end
-    off c.in_ok-values.ensures.rest (ap (map selected) c.as_slice.ensures.value ∙ c.in_ok-at.ensures) (ap plain_alteration c.in-Put.is)
-    (c.in_ok-end-in-Put.ensures.did modes (declared_popped modes old mid c.args.slot c.of_slot-declared.result c.in_ok-values.ensures.rest c.of_slot-declared.ensures) (fitting_popped modes old mid c.in_ok-values.ensures.rest c.requires.serves.fitting))
+-- ---- no selector
 
-pub returns-in-Combine-clause-did : goal.returns-in-Combine-clause-did
-returns-in-Combine-clause-did c =
-    let old = c.args.store.now in
-    let mid = c.pop_values.new.self in
-    let modes = modes_of c.args.declarations.now in
-    let vs = map part c.in-Some.values.items in
-    let off : popped (length c.args.brackets.now) [] old.core.now.operands ≡ Pops (map part c.in-Some.values.items) mid.core.now.operands = rw c.in-Some.is at c.in_ok-values.ensures.values in
-    altered_by modes old mid c.combine.new.store c.args.control.now c.combine.new.control c.args.line c.args.what (Combining c.in-Combine.by) c.args.slot c.args.brackets.now vs (map selected c.as_slice-in-Combine.result.now) c.in_ok-end-in-Combine.end
-    off c.in_ok-values.ensures.rest (ap (map selected) c.as_slice-in-Combine.ensures.value ∙ c.in_ok-at.ensures) (ap plain_alteration c.in-Combine.is)
-    (c.in_ok-end-in-Combine.ensures.did modes (declared_popped modes old mid c.args.slot c.of_slot-declared.result c.in_ok-values.ensures.rest c.of_slot-declared.ensures) (fitting_popped modes old mid c.in_ok-values.ensures.rest c.requires.serves.fitting))
+none : (c : goal.After-alter_at) → ArePopped c.args.brackets.now c.args.store.now c.args.store.now []
+none c = none_popped c.args.brackets.now c.args.store.now c.in-0.is
 
-pub returns-clause-did : goal.returns-clause-did
-returns-clause-did c =
+pub returns-in-0-clause-did : goal.returns-in-0-clause-did
+returns-in-0-clause-did c =
     let old = c.args.store.now in
-    let mid = c.pop_values.new.self in
-    let modes = modes_of c.args.declarations.now in
-    let vs = map part c.in-Some.values.items in
-    let off : popped (length c.args.brackets.now) [] old.core.now.operands ≡ Pops (map part c.in-Some.values.items) mid.core.now.operands = rw c.in-Some.is at c.in_ok-values.ensures.values in
-    let new = c.take_out.new.store in
-    let from = c.args.control.now in
-    let to = c.take_out.new.control in
-    let at = map selected c.as_slice-in-TakeOut.result.now in
-    IfOk-weaker c.take_out.result
-    (λ (u : Updated). Alters modes mid from c.args.line (TakingOut c.in-TakeOut.end) (plain_slot (variables mid.core) c.args.slot) at new to u.end)
-    (λ (u : Updated). DoesBy modes old from c.args.line (Alter (plain_alteration c.args.what) (plain_slot (variables old.core) c.args.slot) (map plain_bracket c.args.brackets.now)) new to u.end)
-    (λ u a. altered_by modes old mid new from to c.args.line c.args.what (TakingOut c.in-TakeOut.end) c.args.slot c.args.brackets.now vs at u.end off c.in_ok-values.ensures.rest (ap (map selected) c.as_slice-in-TakeOut.ensures.value ∙ c.in_ok-at.ensures) (ap plain_alteration c.in-TakeOut.is) a)
-    (c.take_out.ensures.did modes (declared_popped modes old mid c.args.slot c.of_slot-declared.result c.in_ok-values.ensures.rest c.of_slot-declared.ensures) (fitting_popped modes old mid c.in_ok-values.ensures.rest c.requires.serves.fitting))
+    did_popped (modes_of c.args.declarations.now) old old c.alter_at.new.store c.args.control.now c.alter_at.new.control c.args.line (plain_alteration c.args.what) c.args.slot c.of_slot.result c.args.brackets.now [] c.alter_at.result (none c) c.of_slot.ensures c.requires.serves.fitting c.alter_at.ensures.did
 
-pub returns-clause-stored : goal.returns-clause-stored
-returns-clause-stored c =
+pub returns-in-0-clause-stored : goal.returns-in-0-clause-stored
+returns-in-0-clause-stored c =
     let old = c.args.store.now in
-    let mid = c.pop_values.new.self in
-    let modes = modes_of c.args.declarations.now in
-    let vs = map part c.in-Some.values.items in
-    let off : popped (length c.args.brackets.now) [] old.core.now.operands ≡ Pops (map part c.in-Some.values.items) mid.core.now.operands = rw c.in-Some.is at c.in_ok-values.ensures.values in
-    let from = c.args.control.now in
-    let at = map selected c.as_slice-in-TakeOut.result.now in
-    IfOk-weaker c.take_out.result
-    (λ (u : Updated). u.end ≡ Paused → u.stored ≡ stores_new (TakingOut c.in-TakeOut.end) (value_held (held (plain_slot (variables mid.core) c.args.slot) mid.core)) at from.turns)
-    (λ (u : Updated). u.end ≡ Paused → u.stored ≡ stores_new (plain_alteration c.args.what) (value_held (held (plain_slot (variables old.core) c.args.slot) old.core)) (selected_by (map plain_bracket c.args.brackets.now) (popped_values (popped (length (map plain_bracket c.args.brackets.now)) [] old.core.now.operands))) from.turns)
-    (λ u h e. stores_popped old mid from c.args.what c.in-TakeOut.end c.args.slot c.args.brackets.now vs at u.stored off c.in_ok-values.ensures.rest (ap (map selected) c.as_slice-in-TakeOut.ensures.value ∙ c.in_ok-at.ensures) (ap plain_alteration c.in-TakeOut.is) (h e))
-    (c.take_out.ensures.stored modes (declared_popped modes old mid c.args.slot c.of_slot-declared.result c.in_ok-values.ensures.rest c.of_slot-declared.ensures))
+    stored_popped (modes_of c.args.declarations.now) old old c.args.control.now.turns (plain_alteration c.args.what) c.args.slot c.of_slot.result c.args.brackets.now [] c.alter_at.result (none c) c.of_slot.ensures c.alter_at.ensures.stored
 
-pub returns-in-Put-clause-gained : goal.returns-in-Put-clause-gained
-returns-in-Put-clause-gained c =
+pub returns-in-0-clause-gained : goal.returns-in-0-clause-gained
+returns-in-0-clause-gained c =
     let old = c.args.store.now in
-    let mid = c.pop_values.new.self in
-    let modes = modes_of c.args.declarations.now in
-    popped_gains modes old mid c.put.new.store c.args.slot true c.in_ok-end-in-Put.end c.in_ok-values.ensures.rest
-    (c.in_ok-end-in-Put.ensures.gained modes (declared_popped modes old mid c.args.slot c.of_slot-declared.result c.in_ok-values.ensures.rest c.of_slot-declared.ensures))
+    gained_popped (modes_of c.args.declarations.now) old old c.alter_at.new.store c.args.slot c.of_slot.result c.args.brackets.now [] c.alter_at.result (none c) c.of_slot.ensures c.alter_at.ensures.gained
 
-pub returns-in-Combine-clause-gained : goal.returns-in-Combine-clause-gained
-returns-in-Combine-clause-gained c =
-    let old = c.args.store.now in
-    let mid = c.pop_values.new.self in
-    let modes = modes_of c.args.declarations.now in
-    popped_gains modes old mid c.combine.new.store c.args.slot true c.in_ok-end-in-Combine.end c.in_ok-values.ensures.rest
-    (c.in_ok-end-in-Combine.ensures.gained modes (declared_popped modes old mid c.args.slot c.of_slot-declared.result c.in_ok-values.ensures.rest c.of_slot-declared.ensures))
+-- ---- one
 
-pub returns-clause-gained : goal.returns-clause-gained
-returns-clause-gained c =
+one : (c : goal.After-array_drop-at) → ArePopped c.args.brackets.now c.args.store.now c.pop_top.new.store (selected c.selector.result ∷ [])
+one c =
+    let old = c.args.store.now in
+    let mid = c.pop_top.new.store in
+    let pops : PopsTop old (Some c.in-Some.value) mid = rw c.in-Some.is at c.in_ok-value-in-1.ensures in
+    one_popped c.args.brackets.now old mid c.in-Some.value bracket.Round c.selector.result c.in-1.is pops c.selector.ensures
+
+pub returns-in-Some-clause-did : goal.returns-in-Some-clause-did
+returns-in-Some-clause-did c =
+    did_popped (modes_of c.args.declarations.now) c.args.store.now c.pop_top.new.store c.alter_at-in-Some.new.store c.args.control.now c.alter_at-in-Some.new.control c.args.line (plain_alteration c.args.what) c.args.slot c.of_slot.result c.args.brackets.now (selected c.selector.result ∷ []) c.alter_at-in-Some.result
+    (one c) c.of_slot.ensures c.requires.serves.fitting c.alter_at-in-Some.ensures.did
+
+pub returns-in-Some-clause-stored : goal.returns-in-Some-clause-stored
+returns-in-Some-clause-stored c =
+    stored_popped (modes_of c.args.declarations.now) c.args.store.now c.pop_top.new.store c.args.control.now.turns (plain_alteration c.args.what) c.args.slot c.of_slot.result c.args.brackets.now (selected c.selector.result ∷ []) c.alter_at-in-Some.result (one c) c.of_slot.ensures c.alter_at-in-Some.ensures.stored
+
+pub returns-in-Some-clause-gained : goal.returns-in-Some-clause-gained
+returns-in-Some-clause-gained c =
+    gained_popped (modes_of c.args.declarations.now) c.args.store.now c.pop_top.new.store c.alter_at-in-Some.new.store c.args.slot c.of_slot.result c.args.brackets.now (selected c.selector.result ∷ []) c.alter_at-in-Some.result (one c) c.of_slot.ensures c.alter_at-in-Some.ensures.gained
+
+-- its operand is lacking
+pub returns-in-None-clause-did : goal.returns-in-None-clause-did
+returns-in-None-clause-did c =
+    let old = c.args.store.now in
+    let mid = c.pop_top.new.store in
+    let pops : PopsTop old None mid = rw c.in-None.is at c.in_ok-value-in-1.ensures in
+    lacking_stuck (modes_of c.args.declarations.now) old mid c.args.control.now c.args.line (plain_alteration c.args.what) (plain_slot (variables old.core) c.args.slot) c.args.brackets.now c.stuck.result.end (one_lacks c.args.brackets.now old.core.now.operands c.in-1.is pops.0) pops.1 c.stuck.ensures.end
+
+pub returns-in-None-clause-gained : goal.returns-in-None-clause-gained
+returns-in-None-clause-gained c =
+    let old = c.args.store.now in
+    let mid = c.pop_top.new.store in
+    let pops : PopsTop old None mid = rw c.in-None.is at c.in_ok-value-in-1.ensures in
+    stuck_gains (modes_of c.args.declarations.now) (plain_slot (variables old.core) c.args.slot) old mid c.stuck.result.stored c.stuck.result.end pops.1 c.stuck.ensures.end
+
+-- ---- several
+
+several : (c : goal.After-drop-at) → ArePopped c.args.brackets.now c.args.store.now c.pop_values.new.self (map selected c.as_slice.result.now)
+several c =
+    let off : popped (length c.args.brackets.now) [] c.args.store.now.core.now.operands ≡ Pops (map part c.in-Some-2.values.items) c.pop_values.new.self.core.now.operands = rw c.in-Some-2.is at c.in_ok-values-in_default.ensures.values in
+    record { values = map part c.in-Some-2.values.items; off = off; rest = c.in_ok-values-in_default.ensures.rest; made = ap (map selected) c.as_slice.ensures.value ∙ c.in_ok-at-in-Some-2.ensures }
+
+pub returns-in_ok-at-in-Some-2-clause-did : goal.returns-in_ok-at-in-Some-2-clause-did
+returns-in_ok-at-in-Some-2-clause-did c =
+    did_popped (modes_of c.args.declarations.now) c.args.store.now c.pop_values.new.self c.alter_at-in-Some-2.new.store c.args.control.now c.alter_at-in-Some-2.new.control c.args.line (plain_alteration c.args.what) c.args.slot c.of_slot.result c.args.brackets.now (map selected c.as_slice.result.now) c.alter_at-in-Some-2.result
+    (several c) c.of_slot.ensures c.requires.serves.fitting c.alter_at-in-Some-2.ensures.did
+
+pub returns-in_ok-at-in-Some-2-clause-stored : goal.returns-in_ok-at-in-Some-2-clause-stored
+returns-in_ok-at-in-Some-2-clause-stored c =
+    stored_popped (modes_of c.args.declarations.now) c.args.store.now c.pop_values.new.self c.args.control.now.turns (plain_alteration c.args.what) c.args.slot c.of_slot.result c.args.brackets.now (map selected c.as_slice.result.now) c.alter_at-in-Some-2.result (several c) c.of_slot.ensures c.alter_at-in-Some-2.ensures.stored
+
+pub returns-in_ok-at-in-Some-2-clause-gained : goal.returns-in_ok-at-in-Some-2-clause-gained
+returns-in_ok-at-in-Some-2-clause-gained c =
+    gained_popped (modes_of c.args.declarations.now) c.args.store.now c.pop_values.new.self c.alter_at-in-Some-2.new.store c.args.slot c.of_slot.result c.args.brackets.now (map selected c.as_slice.result.now) c.alter_at-in-Some-2.result (several c) c.of_slot.ensures c.alter_at-in-Some-2.ensures.gained
+
+-- an operand is lacking
+pub returns-in-None-2-clause-did : goal.returns-in-None-2-clause-did
+returns-in-None-2-clause-did c =
     let old = c.args.store.now in
     let mid = c.pop_values.new.self in
-    let modes = modes_of c.args.declarations.now in
-    let new = c.take_out.new.store in
-    IfOk-weaker c.take_out.result
-    (λ (u : Updated). GainsIf u.stored modes (plain_slot (variables mid.core) c.args.slot) mid new u.end)
-    (λ (u : Updated). GainsIf u.stored modes (plain_slot (variables old.core) c.args.slot) old new u.end)
-    (λ u g. popped_gains modes old mid new c.args.slot u.stored u.end c.in_ok-values.ensures.rest g)
-    (c.take_out.ensures.gained modes (declared_popped modes old mid c.args.slot c.of_slot-declared.result c.in_ok-values.ensures.rest c.of_slot-declared.ensures))
+    let lacks : popped (length c.args.brackets.now) [] old.core.now.operands ≡ Lacks = rw c.in-None-2.is at c.in_ok-values-in_default.ensures.values in
+    let same : mid ≡ old = rw c.in-None-2.is at c.in_ok-values-in_default.ensures.few in
+    lacking_stuck (modes_of c.args.declarations.now) old mid c.args.control.now c.args.line (plain_alteration c.args.what) (plain_slot (variables old.core) c.args.slot) c.args.brackets.now c.stuck-in-None-2.result.end lacks same c.stuck-in-None-2.ensures.end
+
+pub returns-in-None-2-clause-gained : goal.returns-in-None-2-clause-gained
+returns-in-None-2-clause-gained c =
+    let old = c.args.store.now in
+    let mid = c.pop_values.new.self in
+    let same : mid ≡ old = rw c.in-None-2.is at c.in_ok-values-in_default.ensures.few in
+    stuck_gains (modes_of c.args.declarations.now) (plain_slot (variables old.core) c.args.slot) old mid c.stuck-in-None-2.result.stored c.stuck-in-None-2.result.end same c.stuck-in-None-2.ensures.end

@@ -12,7 +12,7 @@ use Rattle.setl_value.specs.Datum.{Datum}
 use Rattle.setl_value.specs.code.DatumOf.{datum}
 use Rattle.setl_machine_control.specs.Declaring.{modes_of}
 use Rattle.setl_machine_variables.proofs.InForm.{combined_in_form, form_gains, given_alike, still_on_top}
-use Rattle.setl_machine_variables.proofs.in_form.update_in_form.Goals as goal
+use Rattle.setl_machine_variables.proofs.in_form.update_form.Goals as goal
 
 pub drop_top-requires : goal.drop_top-requires
 drop_top-requires c =
