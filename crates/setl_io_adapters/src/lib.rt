@@ -1,6 +1,7 @@
 //! The real outside: files by their paths, and streams that are read or written, each with a count of its faults.
 //!
-//! A stream tells its bytes where the reader or the writer under it does. Real files and streams tell none.
+//! An output tells its bytes where the writer under it does, and an input where the reader under it does and each is
+//! below 256. Real files and streams tell none.
 #![tactic(auto)]
 
 mod files;

@@ -1,5 +1,6 @@
 //! Streams that are read or written.
 ghost use Rattle.std.specs.Prelude.{◌≡◌, None};
+ghost use Rattle.setl_io_adapters.specs.Telling.{only_bytes};
 
 use setl_io::{Put, Sink, Source, Took};
 use std::io::{Read, Write};
@@ -21,13 +22,14 @@ impl<R: Read> ReaderSource<R> {
 }
 
 impl<R: Read> Source for ReaderSource<R> {
-    ghost left = { λ source. R.remaining source.reader };
+    ghost left = { λ source. only_bytes (R.remaining source.reader) };
 
     ghost calls = { λ _. None };
 
     ghost faults = { λ source. source.faults };
 
     /// One read of the stream; no byte is kept back.
+    #[tactic(auto, using(crate::proofs::Telling::tells_bytes, crate::proofs::Telling::reads))]
     fn read(&mut self, into: &mut [u8]) -> Took {
         match self.reader.read(into) {
             Ok(0) if !into.is_empty() => Took::End,
@@ -59,7 +61,7 @@ impl<W: Write> WriterSink<W> {
 impl<W: Write> Sink for WriterSink<W> {
     ghost held = { λ sink. W.contents sink.writer };
 
-    ghost calls = { λ _. None };
+    ghost pieces = { λ _. None };
 
     ghost faults = { λ sink. sink.faults };
 

@@ -18,6 +18,7 @@ use Rattle.setl_machine_variables.specs.Freely.{WorksOrLeaves}
 use Rattle.setl_machine.specs.Gaining.{RunGains}
 use Rattle.setl_machine.specs.Outcome.{Seen, Ran, RanQuietly}
 use Rattle.setl_machine.specs.Working.{went_on, GoesOrLeaves, DoesOrLeaves, StepsOrLeaves}
+use Rattle.setl_machine.specs.Writing.{RunWrites}
 use Rattle.setl_machine_control.specs.declared.end.End.{End}
 use Rattle.setl_machine_control.specs.declared.end.End.TheVariants.{Done, Stopped, Spent, Paused, ReadFault, WriteFault, NoMemory, Stuck}
 use Rattle.setl_machine.proofs.RanLaws.{ran_join, ran_one}
@@ -25,6 +26,7 @@ use Rattle.setl_machine.proofs.Rounds.{Moment, Runs, runs_then}
 use Rattle.setl_machine.proofs.Stays.{ran_none}
 use Rattle.setl_machine.proofs.Stepping.{step_is, quiet_steps, quiet_no_read, quiet_no_write}
 use Rattle.setl_machine.proofs.Working.{works_any}
+use Rattle.setl_machine.proofs.Writing.{quiet_run_writes}
 
 -- ---- an instruction
 
@@ -114,15 +116,17 @@ quietly_on modes c d n old mid new from via to e same p q = λ now rest.
     (ran_one modes c k there now now e (λ h. absurd (quiet_no_read modes x there e did h)) (λ h. absurd (quiet_no_write modes x there e did h)) (quiet_steps modes x there now e did))
 
 -- a call that neither reads nor writes is a call
-pub quietly_runs : (modes : Modes) (c : Code) (n : ℕ) (old new : Moment) (e : End) → new.outside ≡ old.outside → new.left ≡ old.left → new.control.reader ≡ old.control.reader → RanQuietly modes c n old.core old.control new.core new.control e → ((rest : List ℕ) → RunGains modes c n (stood_for old.core old.control rest) old.bases new.bases e) → Runs modes c n old new e
-quietly_runs modes c n old new e outside left reader ran gained = λ rest h. (
+pub quietly_runs : (modes : Modes) (c : Code) (n : ℕ) (old new : Moment) (e : End) → new.outside ≡ old.outside → new.left ≡ old.left → new.pieces ≡ old.pieces → new.control.reader ≡ old.control.reader → RanQuietly modes c n old.core old.control new.core new.control e → ((rest : List ℕ) → RunGains modes c n (stood_for old.core old.control rest) old.bases new.bases e) → Runs modes c n old new e
+quietly_runs modes c n old new e outside left pieces reader ran gained = λ rest h. (
   rest,
   subst (λ (l : Option (List ℕ)). IsRest (ahead old.control.reader.ended l) rest) left (subst (λ (r : ReaderState). IsRest (ahead r.ended new.left) rest) reader h),
   subst (λ (o : Seen). Ran modes c n (stood_for old.core old.control rest) old.outside o (stood_for new.core new.control rest) e) (sym outside) (ran old.outside rest),
   inl left,
   gained rest,
+  subst (λ (p : Option ℕ). RunWrites modes c n (stood_for old.core old.control rest) old.pieces p e) (sym pieces)
+      (quiet_run_writes modes c n (stood_for old.core old.control rest) (stood_for new.core new.control rest) old.pieces e (λ now. ran now rest)),
 )
 
 -- a call more that neither reads nor writes, of the same code
-pub then_quietly : (modes : Modes) (c d : Code) (n j : ℕ) (old mid new : Moment) (e : End) → d ≡ c → Runs modes c n old mid Paused → new.outside ≡ mid.outside → new.left ≡ mid.left → new.control.reader ≡ mid.control.reader → RanQuietly modes d j mid.core mid.control new.core new.control e → ((rest : List ℕ) → RunGains modes d j (stood_for mid.core mid.control rest) mid.bases new.bases e) → Runs modes c (n + j) old new e
-then_quietly modes c d n j old mid new e same ran outside left reader q gained = runs_then modes c d n j (n + j) old mid new e same refl ran (quietly_runs modes d j mid new e outside left reader q gained)
+pub then_quietly : (modes : Modes) (c d : Code) (n j : ℕ) (old mid new : Moment) (e : End) → d ≡ c → Runs modes c n old mid Paused → new.outside ≡ mid.outside → new.left ≡ mid.left → new.pieces ≡ mid.pieces → new.control.reader ≡ mid.control.reader → RanQuietly modes d j mid.core mid.control new.core new.control e → ((rest : List ℕ) → RunGains modes d j (stood_for mid.core mid.control rest) mid.bases new.bases e) → Runs modes c (n + j) old new e
+then_quietly modes c d n j old mid new e same ran outside left pieces reader q gained = runs_then modes c d n j (n + j) old mid new e same refl ran (quietly_runs modes d j mid new e outside left pieces reader q gained)

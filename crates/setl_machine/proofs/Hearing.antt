@@ -1,5 +1,5 @@
 -- Calls in a row, with what watchers heard of them.
-use Rattle.std.proofs.Common.{◌≡◌, ◌∙◌, inl, ◌+◌, ℕ, List, [], ◌∷◌, ◌++◌, length, map, Option, None, Some, refl, sym, ap, subst, arith}
+use Rattle.std.proofs.Common.{◌≡◌, ◌∙◌, inl, ◌+◌, ℕ, List, [], ◌∷◌, length, map, Option, None, Some, refl, sym, ap, subst, arith}
 use Rattle.setl_model_runs.specs.Events as run
 use Rattle.setl_model_runs.specs.Run.{Store, State, Next, Goes, Ends, settle, step}
 use Rattle.setl_model_runs.specs.Run as runs
@@ -17,15 +17,17 @@ use Rattle.setl_machine_control.specs.Control.{stood_for, IsRest}
 use Rattle.setl_machine_control.specs.Declaring.{Modes, tested, AreOfMain, IsBare}
 use Rattle.setl_machine.specs.Hearing.{events_told, Hears, Tells}
 use Rattle.setl_machine_control.specs.Answers.{start, Answers}
-use Rattle.setl_machine.specs.Gaining.{RunGains}
+use Rattle.setl_machine.specs.Gaining.{bases_by, RunGains}
 use Rattle.setl_machine.specs.Outcome.{Seen, Ran, ReadsOnly}
+use Rattle.setl_machine.specs.Writing.{pieces_by, RunWrites}
 use Rattle.setl_machine_control.specs.declared.end.End.{End}
 use Rattle.setl_machine_control.specs.declared.end.End.TheVariants.{Done, Stopped, Spent, Paused, ReadFault, WriteFault, NoMemory, Stuck}
 use Rattle.setl_machine.proofs.Declared.{AllTaken, TakesAll, parameters_taken}
-use Rattle.setl_machine.proofs.RanLaws.{Came, came, ran_join, reads_join}
+use Rattle.setl_machine.proofs.RanLaws.{ran_join, reads_join}
 use Rattle.setl_machine.proofs.Rounds.{Moment, Runs, runs_give_up}
-use Rattle.setl_machine.proofs.Joining.{gains_join, told_behind}
-use Rattle.setl_machine.proofs.RunLaws.{all_behind, run_joined, run_one}
+use Rattle.setl_machine.proofs.Joining.{bases_in_parts, made, makes_join}
+use Rattle.setl_machine.proofs.Prints.{pieces_in_parts}
+use Rattle.setl_machine.proofs.RunLaws.{run_one}
 use Rattle.setl_machine.proofs.Stays.{ran_none}
 
 -- what a call of at most so many steps did, and what watchers heard, where these bytes were and are still to come
@@ -35,6 +37,7 @@ Is modes c n old new h h' e rest rest' =
     × ReadsOnly modes c n (stood_for old.core old.control rest) old.outside.held new.outside.held old.left new.left
     × Hears modes c n (stood_for old.core old.control rest) h h' e
     × RunGains modes c n (stood_for old.core old.control rest) old.bases new.bases e
+    × RunWrites modes c n (stood_for old.core old.control rest) old.pieces new.pieces e
 
 -- the same whatever is left to come then
 abbrev pub Heard : Modes → Code → ℕ → Moment → Moment → Watched → Watched → End → Type 0
@@ -49,6 +52,7 @@ SomeHeard modes c old new h h' e = (rest' : List ℕ) → IsRest (ahead new.cont
     × ReadsOnly modes c n (stood_for old.core old.control rest) old.outside.held new.outside.held old.left new.left
     × Hears modes c n (stood_for old.core old.control rest) h h' e
     × RunGains modes c n (stood_for old.core old.control rest) old.bases new.bases e
+    × RunWrites modes c n (stood_for old.core old.control rest) old.pieces new.pieces e
 
 -- the same without watchers
 abbrev pub SomeRan : Modes → Code → Moment → Moment → End → Type 0
@@ -57,38 +61,9 @@ SomeRan modes c old new e = (rest' : List ℕ) → IsRest (ahead new.control.rea
     × (n : ℕ) × Ran modes c n (stood_for old.core old.control rest) old.outside new.outside (stood_for new.core new.control rest') e
     × ReadsOnly modes c n (stood_for old.core old.control rest) old.outside.held new.outside.held old.left new.left
     × RunGains modes c n (stood_for old.core old.control rest) old.bases new.bases e
+    × RunWrites modes c n (stood_for old.core old.control rest) old.pieces new.pieces e
 
 -- ---- calls in a row
-
-hears_join : ToldInParts → (modes : Modes) (c : Code) (n j : ℕ) (from mid : CodeCore) (old now : Seen) (h h1 h2 : Watched) (e : End) → Ran modes c n from old now mid Paused → Hears modes c n from h h1 Paused → Hears modes c j mid h1 h2 e → Hears modes c (n + j) from h h2 e
-hears_join parts modes c n j from mid old now h h1 h2 e p a b = go e b
-  where
-    w : Came (runs.run (machine c) (tested modes) n (start from)) old now mid
-    w = came modes (runs.run (machine c) (tested modes) n (start from)) old now mid p
-
-    later : List run.Event
-    later = events_told (runs.run (machine c) (tested modes) j (start mid))
-
-    whole : events_told (runs.run (machine c) (tested modes) (n + j) (start from)) ≡ w.state.events ++ later
-    whole =
-        ap events_told (run_joined (machine c) (tested modes) n j (start from) w.state w.goes ∙ ap (λ k. all_behind w.state (runs.run (machine c) (tested modes) j (start k))) w.core)
-        ∙ told_behind w.state (runs.run (machine c) (tested modes) j (start mid))
-
-    both : h2 ≡ told_all later h1 → h2 ≡ told_all (events_told (runs.run (machine c) (tested modes) (n + j) (start from))) h
-    both b =
-        b
-        ∙ ap (told_all later) (a ∙ ap (λ x. told_all (events_told x) h) w.goes)
-        ∙ sym (ap (λ es. told_all es h) whole ∙ parts w.state.events later h)
-
-    go : (e : End) → Hears modes c j mid h1 h2 e → Hears modes c (n + j) from h h2 e
-    go Done b = both b
-    go (Stopped why line) b = both b
-    go Spent b = both b
-    go Stuck b = both b
-    go Paused b = both b
-    go ReadFault b = tt
-    go WriteFault b = tt
-    go NoMemory b = tt
 
 is_join : ToldInParts → (modes : Modes) (c : Code) (n j : ℕ) (old mid new : Moment) (h h1 h2 : Watched) (e : End) (r r1 r2 : List ℕ) → Is modes c n old mid h h1 Paused r r1 → Is modes c j mid new h1 h2 e r1 r2 → Is modes c (n + j) old new h h2 e r r2
 is_join parts modes c n j old mid new h h1 h2 e r r1 r2 a b =
@@ -97,8 +72,9 @@ is_join parts modes c n j old mid new h h1 h2 e r r1 r2 a b =
     let to = stood_for new.core new.control r2 in (
       ran_join modes c n j from there to old.outside mid.outside new.outside e a.0 b.0,
       reads_join modes c n j from there to old.outside mid.outside new.outside e old.left mid.left new.left a.0 b.0 a.1 b.1,
-      hears_join parts modes c n j from there old.outside mid.outside h h1 h2 e a.0 a.2 b.2,
-      gains_join modes c n j from there old.outside mid.outside old.bases mid.bases new.bases e a.0 a.3 b.3,
+      makes_join told_all parts modes c n j from there old.outside mid.outside h h1 h2 e a.0 a.2 b.2,
+      makes_join (bases_by modes) (bases_in_parts modes) modes c n j from there old.outside mid.outside old.bases mid.bases new.bases e a.0 a.3 b.3,
+      makes_join pieces_by pieces_in_parts modes c n j from there old.outside mid.outside old.pieces mid.pieces new.pieces e a.0 a.4 b.4,
     )
 
 -- one more, of the same code
@@ -114,42 +90,35 @@ none_told [] reports = refl
 none_told (e ∷ es) reports = none_told es reports
 
 hears_none : (modes : Modes) (c : Code) (n : ℕ) (k : CodeCore) (h : Watched) (e : End) → h.watchers ≡ [] → Hears modes c n k h h e
-hears_none modes c n k h e none = go e
+hears_none modes c n k h e none = made told_all all h h same e
   where
-    same : h ≡ told_all (events_told (runs.run (machine c) (tested modes) n (start k))) h
-    same = subst (λ ws. watched ws h.reports ≡ told_all (events_told (runs.run (machine c) (tested modes) n (start k))) (watched ws h.reports)) (sym none) (sym (none_told (events_told (runs.run (machine c) (tested modes) n (start k))) h.reports))
+    all : Next CodeCore
+    all = runs.run (machine c) (tested modes) n (start k)
 
-    go : (e : End) → Hears modes c n k h h e
-    go Done = same
-    go (Stopped why line) = same
-    go Spent = same
-    go Stuck = same
-    go Paused = same
-    go ReadFault = tt
-    go WriteFault = tt
-    go NoMemory = tt
+    same : h ≡ told_all (events_told all) h
+    same = subst (λ ws. watched ws h.reports ≡ told_all (events_told all) (watched ws h.reports)) (sym none) (sym (none_told (events_told all) h.reports))
 
 pub heard_then : ToldInParts → (modes : Modes) (c d : Code) (n : ℕ) (old mid new : Moment) (h h1 : Watched) (e : End) → d ≡ c → h1.watchers ≡ [] → Heard modes c n old mid h h1 Paused → SomeRan modes d mid new e → SomeHeard modes c old new h h1 e
 heard_then parts modes c d n old mid new h h1 e same none p q = λ rest' i.
     let b = subst (λ x. SomeRan modes x mid new e) same q rest' i in
     let a = p b.0 b.1 in
     let m = b.2 in
-    let both = is_join parts modes c n m old mid new h h1 h1 e a.0 b.0 rest' a.2 (b.3, b.4, hears_none modes c m (stood_for mid.core mid.control b.0) h1 e none, b.5) in
-    (a.0, a.1, n + m, both.0, both.1, both.2, both.3)
+    let both = is_join parts modes c n m old mid new h h1 h1 e a.0 b.0 rest' a.2 (b.3, b.4, hears_none modes c m (stood_for mid.core mid.control b.0) h1 e none, b.5, b.6) in
+    (a.0, a.1, n + m, both.0, both.1, both.2, both.3, both.4)
 
 pub some_heard : (modes : Modes) (c : Code) (n : ℕ) (old new : Moment) (h h' : Watched) (e : End) → Heard modes c n old new h h' e → SomeHeard modes c old new h h' e
-some_heard modes c n old new h h' e p = λ rest' i. let a = p rest' i in (a.0, a.1, n, (a.2).0, (a.2).1, (a.2).2, (a.2).3)
+some_heard modes c n old new h h' e p = λ rest' i. let a = p rest' i in (a.0, a.1, n, (a.2).0, (a.2).1, (a.2).2, (a.2).3, (a.2).4)
 
 -- no step
 pub heard_none : (modes : Modes) (c : Code) (now : Moment) (h : Watched) → Heard modes c 0 now now h h Paused
-heard_none modes c now h = λ rest' i. (rest', i, (ran_none modes c (stood_for now.core now.control rest') now.outside, inl refl, refl, refl))
+heard_none modes c now h = λ rest' i. (rest', i, (ran_none modes c (stood_for now.core now.control rest') now.outside, inl refl, refl, refl, refl))
 
 -- memory was refused where another call came to
 pub heard_gives_up : (modes : Modes) (c : Code) (n : ℕ) (old new : Moment) (h h1 h2 : Watched) → Heard modes c n old new h h1 Paused → SomeHeard modes c old new h h2 NoMemory
 heard_gives_up modes c n old new h h1 h2 p = λ rest' i.
-    let q : Runs modes c n old new Paused = λ r j. let a = p r j in (a.0, a.1, (a.2).0, (a.2).1, (a.2).3) in
+    let q : Runs modes c n old new Paused = λ r j. let a = p r j in (a.0, a.1, (a.2).0, (a.2).1, (a.2).3, (a.2).4) in
     let b = runs_give_up modes c n old new q rest' i in
-    (b.0, b.1, n + 1, b.2, b.3, tt, tt)
+    (b.0, b.1, n + 1, b.2, b.3, tt, tt, tt)
 
 -- ---- one step
 
@@ -199,7 +168,7 @@ heard_paused are modes c old new es h h' p tells told = λ rest' i.
     let one = run_one (machine c) (tested modes) (start k) in
     let at : Answers modes (step (machine c) (tested modes) (start k)) d Paused = subst (λ x. Answers modes x d Paused) one (a.2).0 in
     let events = goes_telling are modes c k d es (λ line i f. tells line i f a.0 rest') at in
-    (a.0, a.1, (a.2, a.3, told ∙ ap (λ ns. told_each ns h) (sym events ∙ ap (λ x. map noticed (events_told x)) (sym one)), a.4))
+    (a.0, a.1, (a.2, a.3, told ∙ ap (λ ns. told_each ns h) (sym events ∙ ap (λ x. map noticed (events_told x)) (sym one)), a.4, a.5))
 
 -- Where it ends the run, they were told nothing.
 hears_ended : EndsTellNothing → (modes : Modes) (c : Code) (k to : CodeCore) (old new : Seen) (h : Watched) (e : End) → AreOfMain modes → IsBare c → (e ≡ Paused → ⊥) → Ran modes c 1 k old new to e → Hears modes c 1 k h h e
@@ -223,7 +192,7 @@ hears_ended nothing modes c k to old new h e main bare ne r = go e ne r
 pub heard_ended : EndsTellNothing → (modes : Modes) (c : Code) (old new : Moment) (h : Watched) (e : End) → AreOfMain modes → IsBare c → (e ≡ Paused → ⊥) → Runs modes c 1 old new e → Heard modes c 1 old new h h e
 heard_ended nothing modes c old new h e main bare ne p = λ rest' i.
     let a = p rest' i in
-    (a.0, a.1, (a.2, a.3, hears_ended nothing modes c (stood_for old.core old.control a.0) (stood_for new.core new.control rest') old.outside new.outside h e main bare ne a.2, a.4))
+    (a.0, a.1, (a.2, a.3, hears_ended nothing modes c (stood_for old.core old.control a.0) (stood_for new.core new.control rest') old.outside new.outside h e main bare ne a.2, a.4, a.5))
 
 pub no_items : {X Y : Type 0} (f : X → Y) (xs : List X) → length xs ≡ 0 → map f xs ≡ []
 no_items f [] h = refl

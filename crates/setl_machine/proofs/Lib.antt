@@ -1,4 +1,5 @@
 pub mod Cases
+pub mod Prints
 pub mod Silence
 pub mod Stays
 pub mod RunLaws
@@ -9,6 +10,7 @@ pub mod Entering
 pub mod Components
 pub mod Stepping
 pub mod Joining
+pub mod Writing
 pub mod Rounds
 pub mod Ending
 pub mod SlotsKept

@@ -14,11 +14,12 @@ use Rattle.setl_machine_control.specs.Answers.{start, Answers, Quiet}
 use Rattle.setl_machine_control.specs.Control.{stood_for, IsRest}
 use Rattle.setl_machine_control.specs.declared.end.End.{End}
 use Rattle.setl_machine_control.specs.declared.end.End.TheVariants.{Done, Stopped, Spent, Paused, ReadFault, WriteFault, NoMemory, Stuck}
-use Rattle.setl_machine.specs.Gaining.{as_answer, bases_after, Gains, GainsOrLeaves, StayBases, NextGains, RunGains, HandGains}
+use Rattle.setl_machine.specs.Gaining.{as_answer, bases_after, bases_by, Gains, GainsOrLeaves, StayBases, NextGains, RunGains, HandGains}
 use Rattle.setl_machine.specs.Hearing.{events_told}
 use Rattle.setl_machine.specs.Outcome.{Seen, Steps, Ran}
+use Rattle.setl_machine.specs.Writing.{NextWrites}
 use Rattle.setl_machine.proofs.Hearing.{silent}
-use Rattle.setl_machine.proofs.Joining.{gains_join, one_gained}
+use Rattle.setl_machine.proofs.Joining.{bases_in_parts, makes_join, makes_one}
 use Rattle.setl_machine.proofs.Rounds.{Moment, StepDid}
 use Rattle.setl_machine.proofs.Stepping.{quiet_steps}
 
@@ -106,13 +107,14 @@ step_gains are nothing modes c k d old new bs cs e main bare g q = go e g q
     go WriteFault g q = tt
     go NoMemory g q = tt
 
--- a step with what it did to the outside
+-- a step with what it did to the outside, and the pieces that it handed over
 pub step_did : EventsAre → EndsTellNothing → (modes : Modes) (c : Code) (old new : Moment) (e : End) → AreOfMain modes → IsBare c → ((rest' : List ℕ) → IsRest (ahead new.control.reader.ended new.left) rest' →
     (rest : List ℕ) × IsRest (ahead old.control.reader.ended old.left) rest × Steps modes (step (machine c) (tested modes) (start (stood_for old.core old.control rest))) old.outside new.outside (stood_for new.core new.control rest') e) →
-    ((rest rest' : List ℕ) → HandGains modes c (stood_for old.core old.control rest) (stood_for new.core new.control rest') old.bases new.bases (as_answer e)) → StepDid modes c old new e
-step_did are nothing modes c old new e main bare did gained = λ rest' h.
+    ((rest rest' : List ℕ) → HandGains modes c (stood_for old.core old.control rest) (stood_for new.core new.control rest') old.bases new.bases (as_answer e)) →
+    ((rest : List ℕ) → NextWrites (step (machine c) (tested modes) (start (stood_for old.core old.control rest))) old.pieces new.pieces e) → StepDid modes c old new e
+step_did are nothing modes c old new e main bare did gained wrote = λ rest' h.
     let a = did rest' h in
-    (a.0, a.1, a.2, step_gains are nothing modes c (stood_for old.core old.control a.0) (stood_for new.core new.control rest') old.outside new.outside old.bases new.bases e main bare (gained a.0 rest') a.2)
+    (a.0, a.1, a.2, step_gains are nothing modes c (stood_for old.core old.control a.0) (stood_for new.core new.control rest') old.outside new.outside old.bases new.bases e main bare (gained a.0 rest') a.2, wrote a.0)
 
 -- ---- runs
 
@@ -120,11 +122,11 @@ step_did are nothing modes c old new e main bare did gained = λ rest' h.
 pub goes_more : EventsAre → (modes : Modes) (c d : Code) (n : ℕ) (from mid to : CodeCore) (old now : Seen) (bs ms cs : List Base) → d ≡ c → Ran modes c n from old now mid Paused → RunGains modes c n from bs ms Paused →
     HandGains modes d mid to ms cs (Ok true) → Quiet modes (step (machine d) (tested modes) (start mid)) to Paused → RunGains modes c (n + 1) from bs cs Paused
 goes_more are modes c d n from mid to old now bs ms cs same p a g q =
-    let one = one_gained modes d mid ms cs Paused (goes_gains are modes d mid to ms cs g q.0) in
-    gains_join modes c n 1 from mid old now bs ms cs Paused p a (subst (λ x. RunGains modes x 1 mid ms cs Paused) same one)
+    let one = makes_one (bases_by modes) modes d mid ms cs Paused (goes_gains are modes d mid to ms cs g q.0) in
+    makes_join (bases_by modes) (bases_in_parts modes) modes c n 1 from mid old now bs ms cs Paused p a (subst (λ x. RunGains modes x 1 mid ms cs Paused) same one)
 
 pub ends_more : EndsTellNothing → (modes : Modes) (c d : Code) (n : ℕ) (from mid to : CodeCore) (old now : Seen) (bs ms cs : List Base) (e : End) → AreOfMain modes → IsBare d → (e ≡ Paused → ⊥) → d ≡ c → Ran modes c n from old now mid Paused → RunGains modes c n from bs ms Paused →
     HandGains modes d mid to ms cs (Err e) → Quiet modes (step (machine d) (tested modes) (start mid)) to e → RunGains modes c (n + 1) from bs cs e
 ends_more nothing modes c d n from mid to old now bs ms cs e main bare ne same p a g q =
-    let one = one_gained modes d mid ms cs e (ends_gains nothing modes d mid to now now ms cs e main bare ne g (quiet_steps modes (step (machine d) (tested modes) (start mid)) to now e q)) in
-    gains_join modes c n 1 from mid old now bs ms cs e p a (subst (λ x. RunGains modes x 1 mid ms cs e) same one)
+    let one = makes_one (bases_by modes) modes d mid ms cs e (ends_gains nothing modes d mid to now now ms cs e main bare ne g (quiet_steps modes (step (machine d) (tested modes) (start mid)) to now e q)) in
+    makes_join (bases_by modes) (bases_in_parts modes) modes c n 1 from mid old now bs ms cs e p a (subst (λ x. RunGains modes x 1 mid ms cs e) same one)

@@ -1,4 +1,4 @@
--- A step says nothing unless it is a `print`.
+-- A step says and prints nothing unless it is a `print`.
 use Rattle.std.proofs.Common.{◌≡◌, ◌⊎◌, inl, inr, ◌∙◌, ℕ, Bool, true, false, List, [], ◌∷◌, length, Option, None, Some, refl, ap}
 use Rattle.std.specs.Prelude.{slice_get}
 use Rattle.setl_value.specs.Datum.{Datum, bool, int, text, atom, tuple, set}
@@ -19,29 +19,38 @@ use Rattle.setl_code.specs.CodeCore.{Operand, Result, Iterator, PairIterator, Co
 use Rattle.setl_code.specs.Machine.{store_in, store_whole, take_from, selected_by, alter, begin_over, next_or, Added, Adds, Refused, Nowhere, added, go_added, take_apart, call_body, handed_back, return_to, go_back, forget_kept, push_read, decides, do_instr, do_step, fetch, machine}
 use Rattle.setl_machine_control.specs.Declaring.{Modes, tested}
 use Rattle.setl_machine_control.specs.Answers.{start, said}
+use Rattle.setl_machine.specs.Hearing.{events_told}
 use Rattle.setl_machine.specs.Outcome.{AtPrint}
+use Rattle.setl_machine.specs.Writing.{prints}
 use Rattle.setl_machine.proofs.Cases.{by_top, by_popped, by_held, by_rest, by_turn, by_outcome, by_branch}
+use Rattle.setl_machine.proofs.Prints.{store_prints}
 
--- the bytes that a move says
-abbrev pub said_by : Move CodeCore → List ℕ
-said_by (Moves said told to line xs) = said
-said_by (Halts e) = []
+-- the bytes that a move says, and how many lines it prints
+abbrev put_out : Move CodeCore → List ℕ × ℕ
+put_out (Moves said told to line xs) = (said, prints told)
+put_out (Halts e) = ([], 0)
 
-said_if : (t : Bool) (x : Next CodeCore) (e : End) (s : State CodeCore) → said x ≡ s.out → said (if_fits t x e s) ≡ s.out
-said_if true x e s h = h
-said_if false x e s h = refl
+-- those that were written and printed
+abbrev written : Next CodeCore → List ℕ × ℕ
+written x = (said x, prints (events_told x))
 
-pub said_stored : (modes : Modes) (c : Code) (line : ℕ) (xs : List Store) (s : State CodeCore) → said (store_all (machine c) (tested modes) line xs s) ≡ s.out
-said_stored modes c line [] s = refl
-said_stored modes c line (x ∷ xs) s = said_if (tested modes x.0 x.1) _ _ s (said_stored modes c line xs (stored (machine c) line x s))
+written_if : (t : Bool) (x : Next CodeCore) (e : End) (s : State CodeCore) → written x ≡ (s.out, prints s.events) → written (if_fits t x e s) ≡ (s.out, prints s.events)
+written_if true x e s h = h
+written_if false x e s h = refl
 
-pub said_settled : (modes : Modes) (c : Code) (k : CodeCore) (m : Move CodeCore) → said (settle (machine c) (tested modes) (start k) m) ≡ said_by m
-said_settled modes c k (Moves said told to line xs) = said_stored modes c line xs (record { core = to; out = said; events = told })
-said_settled modes c k (Halts e) = refl
+written_stored : (modes : Modes) (c : Code) (line : ℕ) (xs : List Store) (s : State CodeCore) → written (store_all (machine c) (tested modes) line xs s) ≡ (s.out, prints s.events)
+written_stored modes c line [] s = refl
+written_stored modes c line (x ∷ xs) s =
+    let f : ℕ → List ℕ × ℕ = λ n. (s.out, n) in
+    written_if (tested modes x.0 x.1) _ _ s (written_stored modes c line xs (stored (machine c) line x s) ∙ ap f (store_prints s.events line x.0 x.1))
 
--- it says nothing
+written_settled : (modes : Modes) (c : Code) (k : CodeCore) (m : Move CodeCore) → written (settle (machine c) (tested modes) (start k) m) ≡ put_out m
+written_settled modes c k (Moves said told to line xs) = written_stored modes c line xs (record { core = to; out = said; events = told })
+written_settled modes c k (Halts e) = refl
+
+-- it says and prints nothing
 abbrev Mute : Move CodeCore → Type 0
-Mute m = said_by m ≡ []
+Mute m = put_out m ≡ ([], 0)
 
 silent : (e : End) → Mute (Halts e)
 silent e = refl
@@ -132,7 +141,7 @@ IsPrint i = (n : ℕ) × (i ≡ PrintTop n)
 abbrev Quiet : Code → ℕ → Instr → CodeCore → Type 0
 Quiet c line i k = Mute (do_instr c line i k)
 
--- each instruction but `print` says nothing
+-- each instruction but `print` does neither
 instr_mute : (c : Code) (line : ℕ) (i : Instr) (k : CodeCore) → Quiet c line i k ⊎ IsPrint i
 instr_mute c line (Push v) k = inl refl
 instr_mute c line PushAtom k = inl (by_turn Mute silent k _ (λ d. refl))
@@ -165,17 +174,35 @@ instr_mute c line ReadOne k = inl (read_mute (read_denotation k.world.input) lin
 instr_mute c line StopRun k = inl refl
 
 -- so does each step, unless a `print` is in hand
-step_said : (c : Code) (k : CodeCore) (s : Option Step) → fetch c k.now.body k.now.at ≡ s → (said_by (do_step c s k) ≡ []) ⊎ AtPrint c k
-step_said c k None e = inl refl
-step_said c k (Some (line, i)) e = go (instr_mute c line i k)
+step_mute : (c : Code) (k : CodeCore) (s : Option Step) → fetch c k.now.body k.now.at ≡ s → Mute (do_step c s k) ⊎ AtPrint c k
+step_mute c k None e = inl refl
+step_mute c k (Some (line, i)) e = go (instr_mute c line i k)
   where
     go : Quiet c line i k ⊎ IsPrint i → Quiet c line i k ⊎ AtPrint c k
     go (inl h) = inl h
     go (inr h) = inr (line, h.0, e ∙ ap (λ j. Some (line, j)) h.1)
 
-pub says_nothing : (modes : Modes) (c : Code) (k : CodeCore) → (length (said (step (machine c) (tested modes) (start k))) ≡ 0) ⊎ AtPrint c k
-says_nothing modes c k = go (step_said c k (fetch c k.now.body k.now.at) refl)
-  where
-    go : (said_by (do_step c (fetch c k.now.body k.now.at) k) ≡ []) ⊎ AtPrint c k → (length (said (step (machine c) (tested modes) (start k))) ≡ 0) ⊎ AtPrint c k
-    go (inl h) = inl (ap length (said_settled modes c k (do_step c (fetch c k.now.body k.now.at) k) ∙ h))
-    go (inr h) = inr h
+module _ (modes : Modes) (c : Code) (k : CodeCore) where
+  abbrev next : Next CodeCore
+  next = step (machine c) (tested modes) (start k)
+
+  writes_nothing : (written next ≡ ([], 0)) ⊎ AtPrint c k
+  writes_nothing = go (step_mute c k (fetch c k.now.body k.now.at) refl)
+    where
+      go : Mute (do_step c (fetch c k.now.body k.now.at) k) ⊎ AtPrint c k → (written next ≡ ([], 0)) ⊎ AtPrint c k
+      go (inl h) = inl (written_settled modes c k (do_step c (fetch c k.now.body k.now.at) k) ∙ h)
+      go (inr h) = inr h
+
+  pub says_nothing : (length (said next) ≡ 0) ⊎ AtPrint c k
+  says_nothing = go writes_nothing
+    where
+      go : (written next ≡ ([], 0)) ⊎ AtPrint c k → (length (said next) ≡ 0) ⊎ AtPrint c k
+      go (inl h) = inl (ap (λ (w : List ℕ × ℕ). length w.0) h)
+      go (inr h) = inr h
+
+  pub prints_nothing : (prints (events_told next) ≡ 0) ⊎ AtPrint c k
+  prints_nothing = go writes_nothing
+    where
+      go : (written next ≡ ([], 0)) ⊎ AtPrint c k → (prints (events_told next) ≡ 0) ⊎ AtPrint c k
+      go (inl h) = inl (ap (λ (w : List ℕ × ℕ). w.1) h)
+      go (inr h) = inr h

@@ -2,17 +2,15 @@
 use Rattle.std.specs.Prelude.{◌≡◌, ℕ, suc, Bool, true, false, List, [], ◌∷◌, Some, None, Result, Ok, Err}
 use Rattle.setl_model_runs.specs.Events.{Event}
 use Rattle.setl_model_runs.specs.Run.{Next}
-use Rattle.setl_model_runs.specs.Run as runs
 use Rattle.setl_model.specs.Entered.{Base, with_event}
 use Rattle.setl_code.specs.Code.{Code, Instr}
 use Rattle.setl_code.specs.CodeCore.{CodeCore}
-use Rattle.setl_code.specs.Machine.{fetch, machine}
+use Rattle.setl_code.specs.Machine.{fetch}
 use Rattle.setl_code_events.specs.Told.{events_of}
-use Rattle.setl_machine_control.specs.Answers.{start}
-use Rattle.setl_machine_control.specs.Declaring.{Modes, tested}
+use Rattle.setl_machine_control.specs.Declaring.{Modes}
 use Rattle.setl_machine_control.specs.declared.end.End.{End}
 use Rattle.setl_machine_control.specs.declared.end.End.TheVariants as end
-use Rattle.setl_machine.specs.Hearing.{events_told}
+use Rattle.setl_machine.specs.Hearing.{Makes, RunMakes}
 
 -- what an event makes of each base, from the n-th on
 abbrev pub each_with : Modes → ℕ → List Base → Event → List Base
@@ -42,16 +40,17 @@ GainsOrLeaves modes c line i k d bs cs (Ok true) = Gains modes c line i k d bs c
 GainsOrLeaves modes c line i k d bs cs (Ok false) = cs ≡ bs
 GainsOrLeaves modes c line i k d bs cs (Err e) = Gains modes c line i k d bs cs e
 
+-- the same of the events first
+abbrev pub bases_by : Modes → List Event → List Base → List Base
+bases_by modes es bs = bases_after modes bs es
+
 -- what comes next, a step or a run, made them what its events leave; after a fault and want of memory nothing is known of them
 abbrev pub NextGains : Modes → Next CodeCore → (bs cs : List Base) → End → Type 0
-NextGains modes x bs cs end.ReadFault = Unit {0}
-NextGains modes x bs cs end.WriteFault = Unit {0}
-NextGains modes x bs cs end.NoMemory = Unit {0}
-NextGains modes x bs cs e = cs ≡ bases_after modes bs (events_told x)
+NextGains modes x bs cs e = Makes (bases_by modes) x bs cs e
 
 -- so did at most so many steps of a code from this core
 abbrev pub RunGains : Modes → Code → ℕ → CodeCore → (bs cs : List Base) → End → Type 0
-RunGains modes c n from bs cs e = NextGains modes (runs.run (machine c) (tested modes) n (start from)) bs cs e
+RunGains modes c n from bs cs e = RunMakes (bases_by modes) modes c n from bs cs e
 
 -- how a step ended, as an answer
 abbrev pub as_answer : End → Result Bool End

@@ -1,4 +1,4 @@
--- What watchers were told of a run.
+-- What a run told, and what watchers heard of it.
 use Rattle.std.specs.Prelude.{◌≡◌, ℕ, List, map, Result, Ok, Err, Some}
 use Rattle.std.specs.Global.{Vec}
 use Rattle.setl_model_runs.specs.Events as run
@@ -25,13 +25,22 @@ abbrev pub events_told : Next CodeCore → List run.Event
 events_told (Goes s) = s.events
 events_told (Ends e s) = s.events
 
+-- What comes next, a step or a run, made of something what its events make of it; of one that ends in a fault or for want of memory
+-- nothing is said.
+abbrev pub Makes : {S : Type 0} → (List run.Event → S → S) → Next CodeCore → (old new : S) → End → Type 0
+Makes after x old new end.ReadFault = Unit {0}
+Makes after x old new end.WriteFault = Unit {0}
+Makes after x old new end.NoMemory = Unit {0}
+Makes after x old new e = new ≡ after (events_told x) old
+
+-- so did at most so many steps of a code from this core
+abbrev pub RunMakes : {S : Type 0} → (List run.Event → S → S) → Modes → Code → ℕ → CodeCore → (old new : S) → End → Type 0
+RunMakes after modes c n from old new e = Makes after (runs.run (machine c) (tested modes) n (start from)) old new e
+
 -- Watchers heard at most n steps of a code that ended so: they were told its events, each once and in order. After a fault
 -- and want of memory nothing is known of them.
 abbrev pub Hears : Modes → Code → ℕ → CodeCore → (old new : Watched) → End → Type 0
-Hears modes c n from old new end.ReadFault = Unit {0}
-Hears modes c n from old new end.WriteFault = Unit {0}
-Hears modes c n from old new end.NoMemory = Unit {0}
-Hears modes c n from old new e = new ≡ told_all (events_told (runs.run (machine c) (tested modes) n (start from))) old
+Hears modes c n from old new e = RunMakes told_all modes c n from old new e
 
 -- ---- a step that is told
 

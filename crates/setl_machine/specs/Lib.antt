@@ -5,3 +5,5 @@ pub mod Operating
 pub mod Hearing
 pub mod Held
 pub mod Gaining
+pub mod Prints
+pub mod Writing

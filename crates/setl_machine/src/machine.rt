@@ -9,6 +9,7 @@ ghost use Rattle.setl_machine_control.specs.Control.{stood_for, IsRest};
 ghost use Rattle.setl_machine_control.specs.Declaring.{modes_of, tested, Serves};
 ghost use Rattle.setl_machine_control.specs.Answers.{start};
 ghost use Rattle.setl_machine.specs.Gaining.{as_answer, HandGains, RunGains};
+ghost use Rattle.setl_machine.specs.Writing.{NextWrites, RunWrites};
 ghost use Rattle.setl_machine.specs.Outcome.{seen, Steps, AtPrint, AtRead, Ran, ReadsOnly};
 ghost use Rattle.setl_machine_control.specs.declared.end.End.{End};
 
@@ -49,7 +50,8 @@ pub fn run<I: Source, O: Sink>(
         (rest : List ℕ) × IsRest (ahead control.old.reader.ended (I.left input.old)) rest
         × Ran (modes_of declarations.now) (plain_code store.old.code) steps (stood_for store.old.core control.old rest) (seen (O.held out.old) (O.faults out.old) (I.faults input.old)) (seen (O.held out.new) (O.faults out.new) (I.faults input.new)) (stood_for store.new.core control.new rest') result
         × ReadsOnly (modes_of declarations.now) (plain_code store.old.code) steps (stood_for store.old.core control.old rest) (O.held out.old) (O.held out.new) (I.left input.old) (I.left input.new)
-        × RunGains (modes_of declarations.now) (plain_code store.old.code) steps (stood_for store.old.core control.old rest) store.old.bases store.new.bases result }
+        × RunGains (modes_of declarations.now) (plain_code store.old.code) steps (stood_for store.old.core control.old rest) store.old.bases store.new.bases result
+        × RunWrites (modes_of declarations.now) (plain_code store.old.code) steps (stood_for store.old.core control.old rest) (O.pieces out.old) (O.pieces out.new) result }
     ensures code { result ≡ End.Paused → store.new.code ≡ store.old.code }
     ensures goes_on { result ≡ End.Paused → control.new.reader.fault ≡ None }
     ensures took { TakesOff (I.left input.old) (I.left input.new) }
@@ -91,7 +93,8 @@ pub fn run_whole<I: Source, O: Sink>(
         (rest : List ℕ) × IsRest (ahead control.old.reader.ended (I.left input.old)) rest
         × (n : ℕ) × Ran (modes_of declarations.now) (plain_code store.old.code) n (stood_for store.old.core control.old rest) (seen (O.held out.old) (O.faults out.old) (I.faults input.old)) (seen (O.held out.new) (O.faults out.new) (I.faults input.new)) (stood_for store.new.core control.new rest') result
         × ReadsOnly (modes_of declarations.now) (plain_code store.old.code) n (stood_for store.old.core control.old rest) (O.held out.old) (O.held out.new) (I.left input.old) (I.left input.new)
-        × RunGains (modes_of declarations.now) (plain_code store.old.code) n (stood_for store.old.core control.old rest) store.old.bases store.new.bases result }
+        × RunGains (modes_of declarations.now) (plain_code store.old.code) n (stood_for store.old.core control.old rest) store.old.bases store.new.bases result
+        × RunWrites (modes_of declarations.now) (plain_code store.old.code) n (stood_for store.old.core control.old rest) (O.pieces out.old) (O.pieces out.new) result }
     ensures whole { ¬ (result ≡ End.Paused) }
     ensures took { TakesOff (I.left input.old) (I.left input.new) }
     ensures honest { StaysHonest control.old.reader.ended (I.left input.old) control.new.reader.ended (I.left input.new) }
@@ -120,6 +123,7 @@ fn step<I: Source, O: Sink>(
         (rest : List ℕ) × IsRest (ahead control.old.reader.ended (I.left input.old)) rest
         × Steps (modes_of declarations.now) (step (machine (plain_code store.old.code)) (tested (modes_of declarations.now)) (start (stood_for store.old.core control.old rest))) (seen (O.held out.old) (O.faults out.old) (I.faults input.old)) (seen (O.held out.new) (O.faults out.new) (I.faults input.new)) (stood_for store.new.core control.new rest') result }
     ensures gained { (rest rest' : List ℕ) → HandGains (modes_of declarations.now) (plain_code store.old.code) (stood_for store.old.core control.old rest) (stood_for store.new.core control.new rest') store.old.bases store.new.bases (as_answer result) }
+    ensures wrote { (rest : List ℕ) → NextWrites (step (machine (plain_code store.old.code)) (tested (modes_of declarations.now)) (start (stood_for store.old.core control.old rest))) (O.pieces out.old) (O.pieces out.new) result }
     ensures prints { result ≡ End.WriteFault → AtPrint (plain_code store.old.code) store.old.core }
     ensures reads { result ≡ End.ReadFault → AtRead (plain_code store.old.code) store.old.core }
     ensures reads_only { (I.left input.new ≡ I.left input.old) ⊎ AtRead (plain_code store.old.code) store.old.core }

@@ -1,6 +1,8 @@
 //! `print` and `read`.
 
-ghost use Rattle.std.specs.Prelude.{◌≡◌, ◌∷◌, [], List, ℕ, suc, None, map, IfOk, OnOk};
+ghost use Rattle.std.specs.Prelude.{◌≡◌, ◌<◌, ◌∷◌, [], List, ℕ, suc, None, length, map, IfOk, OnOk};
+ghost use Rattle.std.specs.Option.{option_map};
+ghost use Rattle.setl_io.specs.Faults.{one_more};
 ghost use Rattle.setl_value.specs.code.DatumOf.{part};
 ghost use Rattle.setl_code.specs.CodeCore.{CodeCore, Result as Holds};
 ghost use Rattle.setl_store.specs.Standing.{at_place, over, CanGoOn};
@@ -18,6 +20,7 @@ ghost use Rattle.setl_machine.specs.Hearing.{ended, TellsOf};
 ghost use Rattle.setl_machine.specs.Outcome.{seen, Steps};
 ghost use Rattle.setl_machine_control.specs.Reading.{TakesIn};
 ghost use Rattle.setl_machine.specs.Working.{TakesLine, WritesLine, EndsReading};
+ghost use Rattle.setl_machine.specs.Writing.{NextWrites};
 ghost use Rattle.setl_machine_control.specs.declared.end.End.{End};
 
 use crate::telling::one;
@@ -39,6 +42,7 @@ pub(crate) fn print<O: Sink>(
     requires { CanGoOn store.old }
     ensures did { (modes : Modes) (line : ℕ) (w : World) (n : ℕ) → Steps modes (next_of modes (plain_code store.old.code) line (PrintTop count) (in_world w store.old.core)) (seen (O.held out.old) (O.faults out.old) n) (seen (O.held out.new) (O.faults out.new) n) (in_world w store.new.core) result }
     ensures gained { (modes : Modes) (line : ℕ) (k d : CodeCore) → Gains modes (plain_code store.old.code) line (PrintTop count) k d store.old.bases store.new.bases result }
+    ensures wrote { (modes : Modes) (line : ℕ) (w : World) → NextWrites (next_of modes (plain_code store.old.code) line (PrintTop count) (in_world w store.old.core)) (O.pieces out.old) (O.pieces out.new) result }
     ensures code { result ≡ End.Paused → store.new.code ≡ store.old.code }
     ensures no_read { result ≡ End.ReadFault → ⊥ }
 {
@@ -63,7 +67,8 @@ fn take_line(count: u32, store: &mut Store<'_>, alloc: Global) -> Result<Vec<u8>
 #[inline]
 fn write_line<O: Sink>(line: &[u8], store: &mut Store<'_>, out: &mut O) -> End
     requires { CanGoOn store.old }
-    ensures { (n : ℕ) → WritesLine line.now store.old (seen (O.held out.old) (O.faults out.old) n) store.new (seen (O.held out.new) (O.faults out.new) n) result }
+    ensures did { (n : ℕ) → WritesLine line.now store.old (seen (O.held out.old) (O.faults out.old) n) store.new (seen (O.held out.new) (O.faults out.new) n) result }
+    ensures piece { 0 < length line.now → O.pieces out.new ≡ option_map one_more (O.pieces out.old) }
 {
     match write_all(out, line) {
         Ok(()) => {
@@ -137,6 +142,7 @@ pub(crate) fn print_telling<O: Sink>(
     ensures did { (modes : Modes) (line : ℕ) (w : World) (n : ℕ) → Steps modes (next_of modes (plain_code store.old.code) line (PrintTop count) (in_world w store.old.core)) (seen (O.held out.old) (O.faults out.old) n) (seen (O.held out.new) (O.faults out.new) n) (in_world w store.new.core) (ended result) }
     ensures tells { (line : ℕ) → TellsOf store.old control.now line (PrintTop count) store.new control.now result }
     ensures gained { (modes : Modes) (line : ℕ) (k d : CodeCore) → Gains modes (plain_code store.old.code) line (PrintTop count) k d store.old.bases store.new.bases (ended result) }
+    ensures wrote { (modes : Modes) (line : ℕ) (w : World) → NextWrites (next_of modes (plain_code store.old.code) line (PrintTop count) (in_world w store.old.core)) (O.pieces out.old) (O.pieces out.new) (ended result) }
     ensures no_read { ended result ≡ End.ReadFault → ⊥ }
 {
     let line = take_line(count, store, control.alloc())?;

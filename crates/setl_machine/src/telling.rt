@@ -10,6 +10,7 @@ ghost use Rattle.setl_text.specs.code.Reads.{ahead, StaysHonest, TakesOff};
 ghost use Rattle.setl_store.specs.Standing.{variables, CanGoOn};
 ghost use Rattle.setl_machine_control.specs.Control.{stood_for, IsRest};
 ghost use Rattle.setl_machine_control.specs.Declaring.{modes_of, tested, Serves};
+ghost use Rattle.setl_machine.specs.Writing.{NextWrites};
 ghost use Rattle.setl_machine.specs.Gaining.{as_answer, Gains, HandGains};
 ghost use Rattle.setl_machine.specs.Hearing.{ended, Tells, DoesTelling, TellsInHand};
 ghost use Rattle.setl_machine_control.specs.Answers.{start};
@@ -48,6 +49,7 @@ pub fn step_telling<I: Source, O: Sink>(
         (rest : List ℕ) × IsRest (ahead control.old.reader.ended (I.left input.old)) rest
         × Steps (modes_of declarations.now) (step (machine (plain_code store.old.code)) (tested (modes_of declarations.now)) (start (stood_for store.old.core control.old rest))) (seen (O.held out.old) (O.faults out.old) (I.faults input.old)) (seen (O.held out.new) (O.faults out.new) (I.faults input.new)) (stood_for store.new.core control.new rest') (ended result) }
     ensures gained { (rest rest' : List ℕ) → HandGains (modes_of declarations.now) (plain_code store.old.code) (stood_for store.old.core control.old rest) (stood_for store.new.core control.new rest') store.old.bases store.new.bases (as_answer (ended result)) }
+    ensures wrote { (rest : List ℕ) → NextWrites (step (machine (plain_code store.old.code)) (tested (modes_of declarations.now)) (start (stood_for store.old.core control.old rest))) (O.pieces out.old) (O.pieces out.new) (ended result) }
     ensures tells { TellsInHand store.old control.old store.new control.new result }
     ensures prints { ended result ≡ End.WriteFault → AtPrint (plain_code store.old.code) store.old.core }
     ensures reads { ended result ≡ End.ReadFault → AtRead (plain_code store.old.code) store.old.core }

@@ -6,6 +6,7 @@ ghost use Rattle.setl_text.specs.code.Reads.{ahead, StaysHonest, TakesOff};
 ghost use Rattle.setl_watch.specs.Watches.{watched};
 ghost use Rattle.setl_machine_control.specs.Control.{stood_for, IsRest};
 ghost use Rattle.setl_machine_control.specs.Declaring.{modes_of, Serves};
+ghost use Rattle.setl_machine.specs.Writing.{RunWrites};
 ghost use Rattle.setl_machine.specs.Gaining.{RunGains};
 ghost use Rattle.setl_machine.specs.Hearing.{Hears};
 ghost use Rattle.setl_machine.specs.Outcome.{seen, Ran, ReadsOnly};
@@ -43,7 +44,8 @@ pub fn run_watched<I: Source, O: Sink>(
         × (n : ℕ) × Ran (modes_of declarations.now) (plain_code store.old.code) n (stood_for store.old.core control.old rest) (seen (O.held out.old) (O.faults out.old) (I.faults input.old)) (seen (O.held out.new) (O.faults out.new) (I.faults input.new)) (stood_for store.new.core control.new rest') result
         × ReadsOnly (modes_of declarations.now) (plain_code store.old.code) n (stood_for store.old.core control.old rest) (O.held out.old) (O.held out.new) (I.left input.old) (I.left input.new)
         × Hears (modes_of declarations.now) (plain_code store.old.code) n (stood_for store.old.core control.old rest) (watched (map (λ w. watch w) watchers.old.items) reports.old.items) (watched (map (λ w. watch w) watchers.new.items) reports.new.items) result
-        × RunGains (modes_of declarations.now) (plain_code store.old.code) n (stood_for store.old.core control.old rest) store.old.bases store.new.bases result }
+        × RunGains (modes_of declarations.now) (plain_code store.old.code) n (stood_for store.old.core control.old rest) store.old.bases store.new.bases result
+        × RunWrites (modes_of declarations.now) (plain_code store.old.code) n (stood_for store.old.core control.old rest) (O.pieces out.old) (O.pieces out.new) result }
     ensures whole { ¬ (result ≡ End.Paused) }
     ensures took { TakesOff (I.left input.old) (I.left input.new) }
     ensures honest { StaysHonest control.old.reader.ended (I.left input.old) control.new.reader.ended (I.left input.new) }

@@ -3,6 +3,7 @@ use Rattle.std.proofs.Common.{◌≡◌, ◌∙◌, inl, inr, ℕ, Bool, true, L
 use Rattle.std.specs.Prelude.{Result, MatchOption}
 use Rattle.std.specs.Io.KnownBytes.{Consumes}
 use Rattle.std.proofs.lemmas.List.{append-nil}
+use Rattle.setl_io.specs.Source.{AreBytes, TellsBytes}
 use Rattle.setl_value.specs.Datum.{Datum}
 use Rattle.setl_value.specs.code.DatumOf.{datum}
 use Rattle.setl_value.specs.declared.Value as values
@@ -38,25 +39,30 @@ took (Err Deep) fault old kept rest taken f a t = (a, (taken, subst (λ x. old �
 took (Err Source) fault old kept rest taken f a t = tt
 took (Err NoMemory) fault old kept rest taken f a t = tt
 
-rest_before : (left new_left : Option (List ℕ)) (gave rest : List ℕ) → Consumes left new_left gave → IsRest new_left rest → IsRest left (gave ++ rest)
-rest_before None new_left gave rest h k = tt
-rest_before (Some xs) None gave rest h k = absurd h
-rest_before (Some xs) (Some ys) gave rest h k = h ∙ ap (λ zs. gave ++ zs) k
+bytes_then : (xs ys : List ℕ) → AreBytes xs → AreBytes ys → AreBytes (xs ++ ys)
+bytes_then [] ys a b = b
+bytes_then (x ∷ xs) ys a b = (a.0, bytes_then xs ys a.1 b)
 
-all_rest : (left : Option (List ℕ)) (gave : List ℕ) → IsAll left gave → IsRest left gave
-all_rest None gave h = tt
-all_rest (Some xs) gave h = h
+rest_before : (left new_left : Option (List ℕ)) (gave rest : List ℕ) → AreBytes gave → Consumes left new_left gave → (TellsBytes left → TellsBytes new_left) → IsRest new_left rest → IsRest left (gave ++ rest)
+rest_before None None gave rest b h t k = bytes_then gave rest b k
+rest_before None (Some ys) gave rest b h t k = bytes_then gave rest b (subst AreBytes k (t tt))
+rest_before (Some xs) None gave rest b h t k = absurd h
+rest_before (Some xs) (Some ys) gave rest b h t k = h ∙ ap (λ zs. gave ++ zs) k
+
+all_rest : (left : Option (List ℕ)) (gave : List ℕ) → AreBytes gave → IsAll left gave → IsRest left gave
+all_rest None gave b h = b
+all_rest (Some xs) gave b h = h
 
 none_rest : (left : Option (List ℕ)) (rest : List ℕ) → left ≡ Some [] → IsRest left rest → [] ≡ rest
 none_rest left rest h k = let P : Option (List ℕ) → Type 0 = λ l. IsRest l rest in subst P h k
 
 told : (kept new_kept : List ℕ) (left new_left : Option (List ℕ)) (r : Result Got ReadFault) (fault : Option ReadFault) → Answers kept left new_kept new_left r → KeepsFault r fault → (rest : List ℕ) → IsRest new_left rest → (before : List ℕ) × IsRest left before × Took r (kept ++ before) (kept_for fault new_kept ++ rest)
 told kept new_kept left new_left r fault (inl g) f rest h =
-    (g.gave ++ rest, rest_before left new_left g.gave rest g.taken h, took r fault (kept ++ (g.gave ++ rest)) new_kept rest (kept ++ g.gave) f (g.answered rest) (sym (append_assoc kept g.gave rest)))
+    (g.gave ++ rest, rest_before left new_left g.gave rest g.bytes g.taken g.tells h, took r fault (kept ++ (g.gave ++ rest)) new_kept rest (kept ++ g.gave) f (g.answered rest) (sym (append_assoc kept g.gave rest)))
 told kept new_kept left new_left r fault (inr g) f rest h =
     let none : [] ≡ rest = none_rest new_left rest g.none h in
     let empty : [] ≡ new_kept ++ rest = sym (ap (λ l. new_kept ++ l) (sym none) ∙ append-nil new_kept ∙ g.empty) in
-    (g.gave, all_rest left g.gave g.all, took r fault (kept ++ g.gave) new_kept rest (kept ++ g.gave) f (subst (λ l. Answered r l (read_denotation (kept ++ g.gave))) empty g.answered) (sym (ap (λ l. (kept ++ g.gave) ++ l) (sym none) ∙ append-nil (kept ++ g.gave))))
+    (g.gave, all_rest left g.gave g.bytes g.all, took r fault (kept ++ g.gave) new_kept rest (kept ++ g.gave) f (subst (λ l. Answered r l (read_denotation (kept ++ g.gave))) empty g.answered) (sym (ap (λ l. (kept ++ g.gave) ++ l) (sym none) ∙ append-nil (kept ++ g.gave))))
 
 -- ---- the control
 

@@ -1,5 +1,6 @@
 -- What contracts see of a control.
-use Rattle.std.specs.Prelude.{◌≡◌, ℕ, ◌+◌, Bool, true, false, List, [], ◌++◌, Option, Some, None, ⊤}
+use Rattle.std.specs.Prelude.{◌≡◌, ℕ, ◌+◌, Bool, true, false, List, [], ◌++◌, Option, Some, None}
+use Rattle.setl_io.specs.Source.{AreBytes}
 use Rattle.setl_text.specs.code.Reads.{ReaderState}
 use Rattle.setl_text.specs.declared.ReadFault.{ReadFault}
 use Rattle.setl_model_runs.specs.Turns.{left_after}
@@ -31,9 +32,9 @@ in_world w k = record k { world = w }
 abbrev pub stood_for : CodeCore → ControlState → List ℕ → CodeCore
 stood_for core control rest = in_world (world_of control rest) core
 
--- where the bytes that are still to come are told, they are these
+-- where the bytes that are still to come are told, they are these; otherwise they are bytes
 abbrev pub IsRest : Option (List ℕ) → List ℕ → Type 0
-IsRest None rest = ⊤
+IsRest None rest = AreBytes rest
 IsRest (Some left) rest = left ≡ rest
 
 -- one turn was taken, or none is left

@@ -1,8 +1,9 @@
 -- How far a call of the reader went.
-use Rattle.std.proofs.Common.{◌≡◌, ℕ, List, [], ◌++◌, drop, refl, sym, ap, subst, ◌∙◌, Some, None, Ok, Err, Option, Result, Bool, true, false, inl, inr, append_assoc, append-nil, ◌+◌, ◌-◌, ◌≤◌, take, arith, length-take}
+use Rattle.std.proofs.Common.{◌≡◌, ℕ, List, [], ◌∷◌, ◌++◌, drop, refl, sym, ap, subst, ◌∙◌, Some, None, Ok, Err, Option, Result, Bool, true, false, inl, inr, append_assoc, append-nil, ◌+◌, ◌-◌, ◌≤◌, take, arith, length-take}
 use Rattle.std.proofs.lemmas.List.{drop-take, drop-drop, drop_all}
 use Rattle.std.specs.Io.KnownBytes.{Consumes, Keeps, IsAtEnd}
 use Rattle.std.proofs.KnownBytes.{Consumes-nil, Consumes-trans, Consumes-kept}
+use Rattle.setl_io.specs.Source.{AreBytes, TellsBytes}
 use Rattle.setl_value.specs.declared.Value.{Value}
 use Rattle.setl_value.specs.code.DatumOf.{part}
 use Rattle.setl_text.specs.Reading.{Reading, Denotes, Token, Between, Open, finish, resume, read_denotation}
@@ -15,14 +16,24 @@ use Rattle.setl_text.specs.declared.Got.TheVariants as got
 use Rattle.setl_text.specs.declared.ReadFault.{ReadFault}
 use Rattle.setl_text.specs.declared.ReadFault.TheVariants.{Form, Wide, Deep, Source, NoMemory}
 
+-- ---- bytes
+
+bytes_then : (xs ys : List ℕ) → AreBytes xs → AreBytes ys → AreBytes (xs ++ ys)
+bytes_then [] ys a b = b
+bytes_then (x ∷ xs) ys a b = (a.0, bytes_then xs ys a.1 b)
+
+-- ---- how far a call went
+
 -- the input gave some bytes, and the bytes kept followed by these are read as what the state makes of those kept now
 pub record Went (kept : List ℕ) (left : Option (List ℕ)) (kept' : List ℕ) (left' : Option (List ℕ)) (t : Token) (os : List Open) : Type 0 where
   pub gave : List ℕ
+  pub bytes : AreBytes gave
   pub taken : Consumes left left' gave
+  pub tells : TellsBytes left → TellsBytes left'
   pub same : (more : List ℕ) → read_denotation (kept ++ (gave ++ more)) ≡ resume (kept' ++ more) t os
 
 pub went_start : (kept : List ℕ) (left : Option (List ℕ)) → Went kept left kept left Between []
-went_start kept left = record { gave = []; taken = Consumes-nil left; same = λ more. refl }
+went_start kept left = record { gave = []; bytes = tt; taken = Consumes-nil left; tells = λ h. h; same = λ more. refl }
 
 gives_all : (a b : Option (List ℕ)) (gave : List ℕ) → Consumes a b gave → IsAtEnd b → IsAll a gave
 gives_all None b gave taken end = tt
@@ -37,14 +48,18 @@ module _ (kept : List ℕ) (left : Option (List ℕ)) where
   pub went_onward : (kept' kept'' : List ℕ) (left' : Option (List ℕ)) (t : Token) (os new : List Open) (p : Piece) → Went kept left kept' left' t os → ScansKept kept' kept'' t os new (Ok (Onward p)) → Went kept left kept'' left' (token_of p) new
   went_onward kept' kept'' left' t os new p w h = record {
     gave = w.gave;
+    bytes = w.bytes;
     taken = w.taken;
+    tells = w.tells;
     same = λ more. w.same more ∙ h.0 more ∙ ap (λ l. resume (l ++ more) (token_of p) new) (sym h.1.0);
   }
 
-  pub went_filled : (kept' kept'' : List ℕ) (left' left'' : Option (List ℕ)) (t : Token) (os : List Open) → kept' ≡ [] → Went kept left kept' left' t os → Consumes left' left'' kept'' → Went kept left kept'' left'' t os
+  pub went_filled : (kept' kept'' : List ℕ) (left' left'' : Option (List ℕ)) (t : Token) (os : List Open) → kept' ≡ [] → Went kept left kept' left' t os → Fills left' left'' kept'' (Ok true) → Went kept left kept'' left'' t os
   went_filled kept' kept'' left' left'' t os none w more_taken = record {
     gave = w.gave ++ kept'';
-    taken = Consumes-trans left left' left'' w.gave kept'' w.taken more_taken;
+    bytes = bytes_then w.gave kept'' w.bytes more_taken.1;
+    taken = Consumes-trans left left' left'' w.gave kept'' w.taken more_taken.0;
+    tells = λ before. more_taken.2;
     same = λ more. ap (λ l. read_denotation (kept ++ l)) (append_assoc w.gave kept'' more) ∙ w.same (kept'' ++ more) ∙ ap (λ l. resume (l ++ (kept'' ++ more)) t os) none;
   }
 
@@ -56,26 +71,28 @@ module _ (kept : List ℕ) (left : Option (List ℕ)) where
   pub went_found : (kept' kept'' : List ℕ) (left' : Option (List ℕ)) (t : Token) (os new : List Open) (v : Option Value) (n : ℕ) (g : Got) → Went kept left kept' left' t os → ScansKept kept' kept'' t os new (Ok (Found v n)) → ((rest : List ℕ) → reading_of g rest ≡ Denotes (part v) rest) → Answers kept left kept'' left' (Ok g)
   went_found kept' kept'' left' t os new v n g w h is = inl (record {
     gave = w.gave;
+    bytes = w.bytes;
     taken = w.taken;
+    tells = w.tells;
     answered = λ more. answered_got g v (kept'' ++ more) _ (is (kept'' ++ more)) (w.same more ∙ h more);
   })
 
   pub went_wrong : (kept' kept'' : List ℕ) (left' : Option (List ℕ)) (t : Token) (os new : List Open) (f : ReadFault) → Went kept left kept' left' t os → ScansKept kept' kept'' t os new (Err f) → Answers kept left kept'' left' (Err f)
-  went_wrong kept' kept'' left' t os new Form w h = inl (record { gave = w.gave; taken = w.taken; answered = λ more. w.same more ∙ h more })
-  went_wrong kept' kept'' left' t os new Wide w h = inl (record { gave = w.gave; taken = w.taken; answered = λ more. w.same more ∙ h more })
-  went_wrong kept' kept'' left' t os new Deep w h = inl (record { gave = w.gave; taken = w.taken; answered = λ more. w.same more ∙ h more })
+  went_wrong kept' kept'' left' t os new Form w h = inl (record { gave = w.gave; bytes = w.bytes; taken = w.taken; tells = w.tells; answered = λ more. w.same more ∙ h more })
+  went_wrong kept' kept'' left' t os new Wide w h = inl (record { gave = w.gave; bytes = w.bytes; taken = w.taken; tells = w.tells; answered = λ more. w.same more ∙ h more })
+  went_wrong kept' kept'' left' t os new Deep w h = inl (record { gave = w.gave; bytes = w.bytes; taken = w.taken; tells = w.tells; answered = λ more. w.same more ∙ h more })
   went_wrong kept' kept'' left' t os new Source w h = absurd h
-  went_wrong kept' kept'' left' t os new NoMemory w h = inl (record { gave = w.gave; taken = w.taken; answered = λ more. tt })
+  went_wrong kept' kept'' left' t os new NoMemory w h = inl (record { gave = w.gave; bytes = w.bytes; taken = w.taken; tells = w.tells; answered = λ more. tt })
 
   pub went_unfilled : (kept' kept'' : List ℕ) (left' left'' : Option (List ℕ)) (t : Token) (os : List Open) (f : ReadFault) → Went kept left kept' left' t os → Fills left' left'' kept'' (Err f) → Answers kept left kept'' left'' (Err f)
   went_unfilled kept' kept'' left' left'' t os Form w h = absurd h
   went_unfilled kept' kept'' left' left'' t os Wide w h = absurd h
   went_unfilled kept' kept'' left' left'' t os Deep w h = absurd h
   went_unfilled kept' kept'' left' left'' t os NoMemory w h = absurd h
-  went_unfilled kept' kept'' left' left'' t os Source w h = inl (record { gave = w.gave; taken = Consumes-kept left left' left'' w.gave w.taken h; answered = λ more. tt })
+  went_unfilled kept' kept'' left' left'' t os Source w h = inl (record { gave = w.gave; bytes = w.bytes; taken = Consumes-kept left left' left'' w.gave w.taken h.0; tells = λ before. h.1; answered = λ more. tt })
 
   pub went_on : (kept' : List ℕ) (left' : Option (List ℕ)) (t : Token) (os : List Open) → Went kept left kept' left' t os → Answers kept left kept' left' (Err NoMemory)
-  went_on kept' left' t os w = inl (record { gave = w.gave; taken = w.taken; answered = λ more. tt })
+  went_on kept' left' t os w = inl (record { gave = w.gave; bytes = w.bytes; taken = w.taken; tells = w.tells; answered = λ more. tt })
 
   answered_end : (result : Result Got ReadFault) (r s : Reading) → s ≡ r → Finishes r result → Answered result [] s
   answered_end (Ok (got.Value d)) r s e h = e ∙ h
@@ -90,6 +107,7 @@ module _ (kept : List ℕ) (left : Option (List ℕ)) where
   pub went_finished : (kept' kept'' : List ℕ) (left' left'' : Option (List ℕ)) (t : Token) (os : List Open) (result : Result Got ReadFault) → kept' ≡ [] → Went kept left kept' left' t os → Fills left' left'' kept'' (Ok false) → Finishes (finish t os) result → Answers kept left kept'' left'' result
   went_finished kept' kept'' left' left'' t os result none w h e = inr (record {
     gave = w.gave;
+    bytes = w.bytes;
     all = gives_all left left' w.gave w.taken h.0;
     none = h.1.0;
     empty = h.1.1;

@@ -10,7 +10,7 @@ ghost use Rattle.setl_text.specs.code.Reads.{ahead, StaysHonest, TakesOff, Answe
 use crate::place::Collection;
 use crate::scan::{Fed, Piece, feed, finish};
 use crate::{Got, ReadFault};
-use setl_io::{Source, Took};
+use setl_io::{Source, Took, are_bytes};
 use setl_value::Value;
 use std::alloc::{AllocError, Global};
 use std::marker::Model;
@@ -162,6 +162,7 @@ impl Reader {
         }
         match input.read(self.buffer.as_mut_slice()) {
             Took::Bytes(n) => {
+                are_bytes(&self.buffer[..n]);
                 self.at = 0;
                 self.end = n;
                 Ok(true)

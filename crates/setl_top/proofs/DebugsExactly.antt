@@ -39,16 +39,16 @@ counts_in (Trial a b) = true
 
 module _ (one_command : OneCommand) where
   pub debugs_only : FrontLaws → NotScriptAndRefused → OneRefusal → DebugsExactly
-  debugs_only laws not_both one_line words before input based source tree _ _ _ _ ask i p (no_such_watcher d s none) = absurd (not_there one_command words before d (Debug based ask.name) s ask.spelled none tt)
-  debugs_only laws not_both one_line words before input based source tree _ _ _ _ ask i p (refused l it) =
+  debugs_only laws not_both one_line words before input based source tree _ _ _ _ _ ask i p (no_such_watcher d s none) = absurd (not_there one_command words before d (Debug based ask.name) s ask.spelled none tt)
+  debugs_only laws not_both one_line words before input based source tree _ _ _ _ _ ask i p (refused l it) =
       absurd (not_refused laws source it.refusal.reason (refused_so one_command words before (Debug based) source ask refl l it) tree p)
-  debugs_only laws not_both one_line words before input based source tree _ _ _ _ ask i p (script_refused l left it) =
+  debugs_only laws not_both one_line words before input based source tree _ _ _ _ _ ask i p (script_refused l left it) =
       let moved = over_input input left it.bytes l (subst (λ y. TakesScript y left it.bytes) i it.taken) it.refusal in (
         ((λ (e : Refused ≡ Done). absurd (cc)), λ is. absurd (not_both input is.0 l is.1 moved)),
         (λ (e : Refused ≡ Done). absurd (cc)),
         (λ line other. (refl, refl, ap (λ z. z ++ 10 ∷ []) (one_line input l line moved other))),
       )
-  debugs_only laws not_both one_line words before input based source tree _ _ _ _ ask i p (debugged told left a taken) =
+  debugs_only laws not_both one_line words before input based source tree _ _ _ _ _ ask i p (debugged told left n a taken) =
       let asked = a.asked.asked in
       let all : input ≡ a.asked.bytes = subst (λ y. IsAll y a.asked.bytes) i a.asked.input in
       let is : IsScript input a.session.script = subst (λ b. IsScript b a.session.script) (sym all) a.asked.is_script in
@@ -61,5 +61,5 @@ module _ (one_command : OneCommand) where
         (λ _. (a.session.script, is, tells, refl)),
         (λ line other. absurd (not_both input a.session.script line is other)),
       )
-  debugs_only laws not_both one_line words before input based source tree _ _ _ _ ask i p (run_ended status out err left q) = absurd (runs_so one_command words before q.job (Debug based ask.name) q.asked ask.spelled)
-  debugs_only laws not_both one_line words before input based source tree st out e left ask i p a = let number = answers_it one_command words before st out e left a (Debug based ask.name) ask.spelled in absurd (omega (arith, number))
+  debugs_only laws not_both one_line words before input based source tree _ _ _ _ _ ask i p (run_ended status out err left n q) = absurd (runs_so one_command words before q.job (Debug based ask.name) q.asked ask.spelled)
+  debugs_only laws not_both one_line words before input based source tree st out e left n ask i p a = let number = answers_it one_command words before st out e left n a (Debug based ask.name) ask.spelled in absurd (omega (arith, number))

@@ -1,5 +1,5 @@
 -- How the parts of a call make its headline.
-use Rattle.std.proofs.Common.{◌≡◌, ◌⊎◌, inl, inr, ◌<◌, ℕ, List, [], ◌∷◌, ◌++◌, ◌∙◌, length, take, Some, if◌then◌else◌, refl, sym, ap, subst, append_assoc}
+use Rattle.std.proofs.Common.{◌≡◌, ◌⊎◌, inl, inr, ◌<◌, ℕ, List, [], ◌∷◌, ◌++◌, ◌∙◌, length, take, Option, Some, if◌then◌else◌, refl, sym, ap, subst, append_assoc}
 use Rattle.std.specs.Io.KnownBytes.{Appends}
 use Rattle.std.proofs.KnownBytes.{Appends-nil}
 use Rattle.setl_io.specs.Files.{IsText}
@@ -12,7 +12,7 @@ use Rattle.setl_machine_control.specs.declared.end.End.TheVariants as end
 use Rattle.setl_top_status.specs.Ends.{status_of, error_line}
 use Rattle.setl_top_status.specs.Lines.{TriesLine, fault_line}
 use Rattle.setl_top_status.specs.Reasons.{reason_line}
-use Rattle.setl_top_status.specs.Seen.{Seen, CountRose, CountStays, LoadsOnce, FailsOnce, LoadsAtMost}
+use Rattle.setl_top_status.specs.Seen.{Seen, CountRose, CountStays, LoadsOnce, FailsOnce, LoadsAtMost, one_piece}
 use Rattle.setl_top_status.specs.code.Tells.{Tells, whole, failed, starved as starved_in, no_memory}
 use Rattle.setl_top_status.specs.code.Writes.{Written, all_written, write_failed, write_starved, no_text}
 use Rattle.setl_top_status.specs.declared.fault.Fault.TheVariants as fault
@@ -46,9 +46,9 @@ use Rattle.setl_top_words.specs.Words.{Options, dumps, IsFaulty, Spells, HasFile
 use Rattle.setl_top_words.specs.Told.{TellsFaulty}
 
 -- the last line of an end was told, or not
-pub told : (words : List (List ℕ)) (before after : Outside) (status : Status) (out err : List ℕ) → (Ended words before after status → Headline words before after status) → Answers words before status out err after.input.held → Appends before.output.held after.output.held out → IsQuiet words before after → (r : Status) → Tells status err before.error_output after.error_output r → Headline words before after r
-told words before after status out err ends a o q _ (whole h k s) =
-    ends (record { out = out; err = err; answer = a; out_gained = o; err_gained = h; quiet = q; told = k; silent = s })
+pub told : (words : List (List ℕ)) (before after : Outside) (status : Status) (out err : List ℕ) → (Ended words before after status → Headline words before after status) → Answers words before status out err after.input.held after.output.calls → Appends before.output.held after.output.held out → IsQuiet words before after → (r : Status) → Tells status err before.error_output after.error_output r → Headline words before after r
+told words before after status out err ends a o q _ (whole h p k s) =
+    ends (record { out = out; err = err; answer = a; out_gained = o; err_gained = h; quiet = q; told = k; piece = p; silent = s })
 told words before after status out err ends a o q _ (failed h) =
     record { out = out; cause = err_failed out err (record { status = status; answer = a; fails = h; quiet = q }); out_gained = o }
 told words before after status out err ends a o q _ (starved_in h) =
@@ -69,6 +69,20 @@ count_same {A = A} a b e = ap (λ (c : Seen A). c.faults) e
 -- what was held is held
 pub held_same : {A : Type 0} (a b : Seen A) → b ≡ a → b.held ≡ a.held
 held_same {A = A} a b e = ap (λ (c : Seen A). c.held) e
+
+-- nor was a call or a piece
+pub calls_same : {A : Type 0} (a b : Seen A) → b ≡ a → b.calls ≡ a.calls
+calls_same {A = A} a b e = ap (λ (c : Seen A). c.calls) e
+
+-- an answer with this count of pieces, where the input is as before
+answer_there : (words : List (List ℕ)) (before after : Outside) (status : Status) (out err : List ℕ) (pieces : Option ℕ) → Answers words before status out err before.input.held pieces → after.input ≡ before.input → after.output.calls ≡ pieces → Answers words before status out err after.input.held after.output.calls
+answer_there words before after status out err pieces a same count =
+    subst (Answers words before status out err after.input.held) (sym count)
+    (subst (λ left. Answers words before status out err left pieces) (sym (held_same before.input after.input same)) a)
+
+-- and where the output is, too
+answer_where : (words : List (List ℕ)) (before after : Outside) (status : Status) (out err : List ℕ) → Answers words before status out err before.input.held before.output.calls → LeavesRest before after → Answers words before status out err after.input.held after.output.calls
+answer_where words before after status out err a rest = answer_there words before after status out err before.output.calls a rest.input (calls_same before.output after.output rest.output)
 
 pub quiet_where : (words : List (List ℕ)) (before after : Outside) → LoadsAsked words before after → LeavesRest before after → IsQuiet words before after
 quiet_where words before after f rest =
@@ -101,10 +115,9 @@ no_file one words before command s none name a = none name (subst (λ (c : Comma
 -- ---- where nothing is written
 
 -- the last line was told, or not
-pub told_alone : (words : List (List ℕ)) (before after : Outside) (status : Status) (err : List ℕ) → (Ended words before after status → Headline words before after status) → Answers words before status [] err before.input.held → LoadsAsked words before after → LeavesRest before after → (r : Status) → Tells status err before.error_output after.error_output r → Headline words before after r
+pub told_alone : (words : List (List ℕ)) (before after : Outside) (status : Status) (err : List ℕ) → (Ended words before after status → Headline words before after status) → Answers words before status [] err before.input.held before.output.calls → LoadsAsked words before after → LeavesRest before after → (r : Status) → Tells status err before.error_output after.error_output r → Headline words before after r
 told_alone words before after status err ends a f rest r t =
-    let answer = subst (Answers words before status [] err) (sym (held_same before.input after.input rest.input)) a in
-    told words before after status [] err ends answer (appends_same before.output after.output rest.output) (quiet_where words before after f rest) r t
+    told words before after status [] err ends (answer_where words before after status [] err a rest) (appends_same before.output after.output rest.output) (quiet_where words before after f rest) r t
 
 -- memory was refused before anything was told
 pub starved : (words : List (List ℕ)) (before after : Outside) → LoadsAsked words before after ⊎ (after.files ≡ before.files) → LeavesRest before after → TriesLine (fault_line fault.NoMemory) before.error_output after.error_output → MemoryFailed words before after
@@ -191,7 +204,7 @@ module _ (words : List (List ℕ)) (before after : Outside) (heard : Watched) (k
       let line : List ℕ = dump ++ reports_of (job x.input).watchers x.means.events ++ error_line end in
       let first = subst (λ h. Tells status (all_told h ++ error_line end) before.error_output after.error_output r) x.told t in
       let same = subst (λ text. Tells status text before.error_output after.error_output r) (told_headed dump reports (error_line end)) first in
-      told words before after status x.out line ends (run_ended status x.out line after.input.held (record { job = job x.input; asked = a; end = end; ends = how; means = x.means; leaves = x.left; tells = refl })) x.gained (record { files = f; input = x.input_count; output = x.out_count }) r same
+      told words before after status x.out line ends (run_ended status x.out line after.input.held after.output.calls (record { job = job x.input; asked = a; end = end; ends = how; means = x.means; writes = x.writes; leaves = x.left; tells = refl })) x.gained (record { files = f; input = x.input_count; output = x.out_count }) r same
 
   -- it was broken off
   run_unread : RunsToRead l.runnable asked from to → CountRose before.input after.input → CountStays before.output after.output → LoadsAsked words before after → TriesLine (fault_line fault.Read) before.error_output after.error_output → ReadFailed words before after
@@ -270,25 +283,27 @@ pub check_ends : (words : List (List ℕ)) (before after : Outside) (name : List
 check_ends words before after name s rest _ (checked_so tree l still) = record {
   out = [];
   err = [];
-  answer = subst (Answers words before Done [] []) (sym (held_same before.input after.input rest.input)) (checked (of_program words before Check name tree s l));
+  answer = answer_where words before after Done [] [] (checked (of_program words before Check name tree s l)) rest;
   out_gained = appends_same before.output after.output rest.output;
   err_gained = appends_same before.error_output after.error_output still.same;
   quiet = quiet_where words before after (loads words before after (Check name) name s refl tt still.load) rest;
   told = count_same before.error_output after.error_output still.same;
+  piece = calls_same before.error_output after.error_output still.same;
   silent = λ _. still.same;
 }
 check_ends words before after name s rest r (not_checked _ h) = not_loaded words before after (Check name) name s refl tt tt rest r h
 
 -- a text that the answer is was written, or not
-pub written_ends : (words : List (List ℕ)) (before after : Outside) (text : List ℕ) → Answers words before Done text [] before.input.held → ((n : ℕ) → n < length text → UpToWrite words before (take n text)) → after.input ≡ before.input → LoadsAsked words before after → (r : Status) → Written text before.output after.output before.error_output after.error_output r → Headline words before after r
-written_ends words before after text a part_of same files _ (all_written gained count still) = record {
+pub written_ends : (words : List (List ℕ)) (before after : Outside) (text : List ℕ) → Answers words before Done text [] before.input.held (one_piece text before.output.calls) → ((n : ℕ) → n < length text → UpToWrite words before (take n text)) → after.input ≡ before.input → LoadsAsked words before after → (r : Status) → Written text before.output after.output before.error_output after.error_output r → Headline words before after r
+written_ends words before after text a part_of same files _ (all_written gained piece count still) = record {
   out = text;
   err = [];
-  answer = subst (Answers words before Done text []) (sym (held_same before.input after.input same)) a;
+  answer = answer_there words before after Done text [] (one_piece text before.output.calls) a same piece;
   out_gained = gained;
   err_gained = appends_same before.error_output after.error_output still;
   quiet = record { files = files; input = count_same before.input after.input same; output = count };
   told = count_same before.error_output after.error_output still;
+  piece = calls_same before.error_output after.error_output still;
   silent = λ _. still;
 }
 written_ends words before after text a part_of same files _ (write_failed part rose h) = record {
@@ -327,14 +342,15 @@ build_ends words before after name s same r (not_built _ h still) = not_loaded w
 
 -- an explanation that was to be written, of a source that is refused
 explanation_ends : (words : List (List ℕ)) (before after : Outside) (text : List ℕ) → IsToExplain words before text → after.input ≡ before.input → LoadsAsked words before after → (w : Status) → Written text before.output after.output before.error_output after.error_output w → (r : Status) → r ≡ refused_if_done w → Headline words before after r
-explanation_ends words before after text a same files _ (all_written gained count still) r e = subst (Headline words before after) (sym e) (record {
+explanation_ends words before after text a same files _ (all_written gained piece count still) r e = subst (Headline words before after) (sym e) (record {
   out = text;
   err = [];
-  answer = subst (Answers words before Refused text []) (sym (held_same before.input after.input same)) (explained text a);
+  answer = answer_there words before after Refused text [] (one_piece text before.output.calls) (explained text a) same piece;
   out_gained = gained;
   err_gained = appends_same before.error_output after.error_output still;
   quiet = record { files = files; input = count_same before.input after.input same; output = count };
   told = count_same before.error_output after.error_output still;
+  piece = calls_same before.error_output after.error_output still;
   silent = λ _. still;
 })
 explanation_ends words before after text a same files _ (write_failed part rose h) r e = subst (Headline words before after) (sym e) (record {
@@ -366,11 +382,12 @@ module _ (words : List (List ℕ)) (before after : Outside) (name : List ℕ) (s
   text_ends source t files _ (no_fault_in tree p none still) = record {
     out = [];
     err = [];
-    answer = subst (Answers words before Done [] []) (sym (held_same before.input after.input same)) (no_fault (record { name = name; source = source; tree = tree; spelled = s; text = t; is_program = p }));
+    answer = answer_where words before after Done [] [] (no_fault (record { name = name; source = source; tree = tree; spelled = s; text = t; is_program = p })) (record { input = same; output = none });
     out_gained = appends_same before.output after.output none;
     err_gained = appends_same before.error_output after.error_output still;
     quiet = quiet_where words before after files (record { input = same; output = none });
     told = count_same before.error_output after.error_output still;
+    piece = calls_same before.error_output after.error_output still;
     silent = λ _. still;
   }
   text_ends source t files r (refused_for why _ refused_so w) = reason_ends source why t refused_so (to_explain source why t refused_so) files r w

@@ -1,9 +1,10 @@
 -- Which answers exclude which.
 use Rattle.std.proofs.Common.{◌≡◌, ◌≤◌, ◌⊎◌, ◌↔◌, ◌∙◌, ◌^◌, ◌-◌, inl, inr, ℕ, zero, suc, Bool, true, List, [], ◌∷◌, ◌++◌, Option, Some, if◌then◌else◌, refl, sym, ap, ap₂, subst, arith}
 use Rattle.std.specs.Io.KnownBytes.{Appends}
-use Rattle.setl_io.specs.Faults.{one_more}
+use Rattle.setl_io.specs.Faults.{more, one_more}
 use Rattle.setl_io.specs.Files.{IsText}
 use Rattle.setl_io.specs.Sink.{AppendsPart}
+use Rattle.setl_machine.specs.Prints.{prints}
 use Rattle.setl_model_runs.specs.Events.{Event, End}
 use Rattle.setl_model_runs.specs.Events as events
 use Rattle.setl_model_runs.specs.Run.{Machine, Test, State, Next, Goes, Ends, and_then, run, step}
@@ -215,7 +216,7 @@ module _ (one_command : OneCommand) where
   -- ---- what an answer answers
 
   -- the number of the command that it answers
-  abbrev number_by : {words : List (List ℕ)} {before : Outside} {status : Status} {out err : List ℕ} {left : Option (List ℕ)} → Answers words before status out err left → ℕ
+  abbrev number_by : {words : List (List ℕ)} {before : Outside} {status : Status} {out err : List ℕ} {left : Option (List ℕ)} {pieces : Option ℕ} → Answers words before status out err left pieces → ℕ
   number_by (faulty_words told n tells) = 0
   number_by (no_such_watcher c s none) = number_of c
   number_by (refused l it) = number_of it.asked.command
@@ -230,31 +231,31 @@ module _ (one_command : OneCommand) where
   number_by (no_fault it) = number_of (Explain it.name)
   number_by (stop_told k s) = number_of (TellStop k)
   number_by (script_refused l left it) = number_of (Debug it.based it.asked.name)
-  number_by (debugged told left a taken) = number_of (Debug a.session.based a.asked.asked.name)
-  number_by (run_ended status out err left r) = number_of r.asked.command
+  number_by (debugged told left n a taken) = number_of (Debug a.session.based a.asked.asked.name)
+  number_by (run_ended status out err left n r) = number_of r.asked.command
   number_by (trial_refused a b l s r) = number_of (Trial a b)
   number_by (trial_ended status line end a) = number_of (Trial a.tried.seed a.tried.nodes)
 
   -- words of a command are answered as it
-  pub answers_it : (words : List (List ℕ)) (before : Outside) (status : Status) (out err : List ℕ) (left : Option (List ℕ)) (a : Answers words before status out err left) (c : Command) → Spells words c → number_by a ≡ number_of c
-  answers_it words before _ _ _ _ (faulty_words told n tells) c s = absurd (n c s)
-  answers_it words before _ _ _ _ (no_such_watcher d t none) c s = ap number_of (one_command words d c t s)
-  answers_it words before _ _ _ _ (refused l it) c s = ap number_of (one_command words it.asked.command c it.asked.spelled s)
-  answers_it words before _ _ _ _ (code_refused l it) c s = ap number_of (one_command words (Run CodeFile it.options it.name) c it.spelled s)
-  answers_it words before _ _ _ _ (checked it) c s = ap number_of (one_command words (Check it.name) c it.spelled s)
-  answers_it words before _ _ _ _ (listed text a) c s = ap number_of (one_command words (Code a.asked.name) c a.asked.spelled s)
-  answers_it words before _ _ _ _ (built bytes a) c s = ap number_of (one_command words (Build a.asked.name) c a.asked.spelled s)
-  answers_it words before _ _ _ _ (too_long_built it long) c s = ap number_of (one_command words (Build it.name) c it.spelled s)
-  answers_it words before _ _ _ _ (advised text a) c s = ap number_of (one_command words (Advise a.asked.name) c a.asked.spelled s)
-  answers_it words before _ _ _ _ (has_repr l it has) c s = ap number_of (one_command words (Advise it.name) c it.spelled s)
-  answers_it words before _ _ _ _ (explained text a) c s = ap number_of (one_command words (Explain a.name) c a.spelled s)
-  answers_it words before _ _ _ _ (no_fault it) c s = ap number_of (one_command words (Explain it.name) c it.spelled s)
-  answers_it words before _ _ _ _ (stop_told k t) c s = ap number_of (one_command words (TellStop k) c t s)
-  answers_it words before _ _ _ _ (script_refused l left it) c s = ap number_of (one_command words (Debug it.based it.asked.name) c it.asked.spelled s)
-  answers_it words before _ _ _ _ (debugged told left a taken) c s = ap number_of (one_command words (Debug a.session.based a.asked.asked.name) c a.asked.asked.spelled s)
-  answers_it words before _ _ _ _ (run_ended status out err left r) c s = ap number_of (one_command words r.asked.command c r.asked.spelled s)
-  answers_it words before _ _ _ _ (trial_refused a b l t r) c s = ap number_of (one_command words (Trial a b) c t s)
-  answers_it words before _ _ _ _ (trial_ended status line end a) c s = ap number_of (one_command words (Trial a.tried.seed a.tried.nodes) c a.tried.spelled s)
+  pub answers_it : (words : List (List ℕ)) (before : Outside) (status : Status) (out err : List ℕ) (left : Option (List ℕ)) (pieces : Option ℕ) (a : Answers words before status out err left pieces) (c : Command) → Spells words c → number_by a ≡ number_of c
+  answers_it words before _ _ _ _ _ (faulty_words told n tells) c s = absurd (n c s)
+  answers_it words before _ _ _ _ _ (no_such_watcher d t none) c s = ap number_of (one_command words d c t s)
+  answers_it words before _ _ _ _ _ (refused l it) c s = ap number_of (one_command words it.asked.command c it.asked.spelled s)
+  answers_it words before _ _ _ _ _ (code_refused l it) c s = ap number_of (one_command words (Run CodeFile it.options it.name) c it.spelled s)
+  answers_it words before _ _ _ _ _ (checked it) c s = ap number_of (one_command words (Check it.name) c it.spelled s)
+  answers_it words before _ _ _ _ _ (listed text a) c s = ap number_of (one_command words (Code a.asked.name) c a.asked.spelled s)
+  answers_it words before _ _ _ _ _ (built bytes a) c s = ap number_of (one_command words (Build a.asked.name) c a.asked.spelled s)
+  answers_it words before _ _ _ _ _ (too_long_built it long) c s = ap number_of (one_command words (Build it.name) c it.spelled s)
+  answers_it words before _ _ _ _ _ (advised text a) c s = ap number_of (one_command words (Advise a.asked.name) c a.asked.spelled s)
+  answers_it words before _ _ _ _ _ (has_repr l it has) c s = ap number_of (one_command words (Advise it.name) c it.spelled s)
+  answers_it words before _ _ _ _ _ (explained text a) c s = ap number_of (one_command words (Explain a.name) c a.spelled s)
+  answers_it words before _ _ _ _ _ (no_fault it) c s = ap number_of (one_command words (Explain it.name) c it.spelled s)
+  answers_it words before _ _ _ _ _ (stop_told k t) c s = ap number_of (one_command words (TellStop k) c t s)
+  answers_it words before _ _ _ _ _ (script_refused l left it) c s = ap number_of (one_command words (Debug it.based it.asked.name) c it.asked.spelled s)
+  answers_it words before _ _ _ _ _ (debugged told left n a taken) c s = ap number_of (one_command words (Debug a.session.based a.asked.asked.name) c a.asked.asked.spelled s)
+  answers_it words before _ _ _ _ _ (run_ended status out err left n r) c s = ap number_of (one_command words r.asked.command c r.asked.spelled s)
+  answers_it words before _ _ _ _ _ (trial_refused a b l t r) c s = ap number_of (one_command words (Trial a b) c t s)
+  answers_it words before _ _ _ _ _ (trial_ended status line end a) c s = ap number_of (one_command words (Trial a.tried.seed a.tried.nodes) c a.tried.spelled s)
 
   -- ---- faulty words
 
@@ -269,24 +270,24 @@ module _ (one_command : OneCommand) where
   not_words events.Stuck status h e = absurd (cc)
 
   pub words_only : WordsExactly
-  words_only words before _ _ _ _ (faulty_words told n tells) = ((λ _ c s t. n c s), λ _. refl)
-  words_only words before _ _ _ _ (no_such_watcher c s none) = ((λ _ d s' there. not_there words before c d s s' none there), λ _. refl)
-  words_only words before _ _ _ _ (refused l it) = is_words Refused (λ e. absurd (cc)) (λ no. no it.asked.command it.asked.spelled it.asked.there)
-  words_only words before _ _ _ _ (checked it) = is_words Done (λ e. absurd (cc)) (λ no. no (Check it.name) it.spelled tt)
-  words_only words before _ _ _ _ (listed text a) = is_words Done (λ e. absurd (cc)) (λ no. no (Code a.asked.name) a.asked.spelled tt)
-  words_only words before _ _ _ _ (code_refused l it) = is_words Refused (λ e. absurd (cc)) (λ no. no (Run CodeFile it.options it.name) it.spelled it.there)
-  words_only words before _ _ _ _ (built bytes a) = is_words Done (λ e. absurd (cc)) (λ no. no (Build a.asked.name) a.asked.spelled tt)
-  words_only words before _ _ _ _ (too_long_built it long) = is_words Refused (λ e. absurd (cc)) (λ no. no (Build it.name) it.spelled tt)
-  words_only words before _ _ _ _ (advised text a) = is_words Done (λ e. absurd (cc)) (λ no. no (Advise a.asked.name) a.asked.spelled tt)
-  words_only words before _ _ _ _ (has_repr l it has) = is_words Refused (λ e. absurd (cc)) (λ no. no (Advise it.name) it.spelled tt)
-  words_only words before _ _ _ _ (explained text a) = is_words Refused (λ e. absurd (cc)) (λ no. no (Explain a.name) a.spelled tt)
-  words_only words before _ _ _ _ (no_fault it) = is_words Done (λ e. absurd (cc)) (λ no. no (Explain it.name) it.spelled tt)
-  words_only words before _ _ _ _ (stop_told k s) = is_words Done (λ e. absurd (cc)) (λ no. no (TellStop k) s tt)
-  words_only words before _ _ _ _ (script_refused l left it) = is_words Refused (λ e. absurd (cc)) (λ no. no (Debug it.based it.asked.name) it.asked.spelled tt)
-  words_only words before _ _ _ _ (debugged told left a taken) = is_words Done (λ e. absurd (cc)) (λ no. no (Debug a.session.based a.asked.asked.name) a.asked.asked.spelled tt)
-  words_only words before _ _ _ _ (run_ended status out err left r) = is_words status (not_words r.end status r.ends) (λ no. no r.asked.command r.asked.spelled r.asked.there)
-  words_only words before _ _ _ _ (trial_refused a b line s r) = is_words Refused (λ e. absurd (cc)) (λ no. no (Trial a b) s tt)
-  words_only words before _ _ _ _ (trial_ended status line end a) = is_words status (not_words end status a.ends) (λ no. no (Trial a.tried.seed a.tried.nodes) a.tried.spelled tt)
+  words_only words before _ _ _ _ _ (faulty_words told n tells) = ((λ _ c s t. n c s), λ _. refl)
+  words_only words before _ _ _ _ _ (no_such_watcher c s none) = ((λ _ d s' there. not_there words before c d s s' none there), λ _. refl)
+  words_only words before _ _ _ _ _ (refused l it) = is_words Refused (λ e. absurd (cc)) (λ no. no it.asked.command it.asked.spelled it.asked.there)
+  words_only words before _ _ _ _ _ (checked it) = is_words Done (λ e. absurd (cc)) (λ no. no (Check it.name) it.spelled tt)
+  words_only words before _ _ _ _ _ (listed text a) = is_words Done (λ e. absurd (cc)) (λ no. no (Code a.asked.name) a.asked.spelled tt)
+  words_only words before _ _ _ _ _ (code_refused l it) = is_words Refused (λ e. absurd (cc)) (λ no. no (Run CodeFile it.options it.name) it.spelled it.there)
+  words_only words before _ _ _ _ _ (built bytes a) = is_words Done (λ e. absurd (cc)) (λ no. no (Build a.asked.name) a.asked.spelled tt)
+  words_only words before _ _ _ _ _ (too_long_built it long) = is_words Refused (λ e. absurd (cc)) (λ no. no (Build it.name) it.spelled tt)
+  words_only words before _ _ _ _ _ (advised text a) = is_words Done (λ e. absurd (cc)) (λ no. no (Advise a.asked.name) a.asked.spelled tt)
+  words_only words before _ _ _ _ _ (has_repr l it has) = is_words Refused (λ e. absurd (cc)) (λ no. no (Advise it.name) it.spelled tt)
+  words_only words before _ _ _ _ _ (explained text a) = is_words Refused (λ e. absurd (cc)) (λ no. no (Explain a.name) a.spelled tt)
+  words_only words before _ _ _ _ _ (no_fault it) = is_words Done (λ e. absurd (cc)) (λ no. no (Explain it.name) it.spelled tt)
+  words_only words before _ _ _ _ _ (stop_told k s) = is_words Done (λ e. absurd (cc)) (λ no. no (TellStop k) s tt)
+  words_only words before _ _ _ _ _ (script_refused l left it) = is_words Refused (λ e. absurd (cc)) (λ no. no (Debug it.based it.asked.name) it.asked.spelled tt)
+  words_only words before _ _ _ _ _ (debugged told left n a taken) = is_words Done (λ e. absurd (cc)) (λ no. no (Debug a.session.based a.asked.asked.name) a.asked.asked.spelled tt)
+  words_only words before _ _ _ _ _ (run_ended status out err left n r) = is_words status (not_words r.end status r.ends) (λ no. no r.asked.command r.asked.spelled r.asked.there)
+  words_only words before _ _ _ _ _ (trial_refused a b line s r) = is_words Refused (λ e. absurd (cc)) (λ no. no (Trial a b) s tt)
+  words_only words before _ _ _ _ _ (trial_ended status line end a) = is_words status (not_words end status a.ends) (λ no. no (Trial a.tried.seed a.tried.nodes) a.tried.spelled tt)
 
   -- ---- refusals
 
@@ -342,27 +343,27 @@ module _ (one_command : OneCommand) where
         not_refused laws source r.reason r.refused a.accepted.tree (subst (λ y. IsProgram y a.accepted.tree) sources a.accepted.is_program)
 
   pub refused_only : FrontLaws → RefusesExactly
-  refused_only laws words before name source line _ _ _ _ load y text r (faulty_words told n tells) = absurd (n load.command load.spelled)
-  refused_only laws words before name source line _ _ _ _ load y text r (no_such_watcher d s none) = absurd (not_there words before d load.command s load.spelled none load.there)
-  refused_only laws words before name source line _ _ _ _ load y text r (refused l it) =
+  refused_only laws words before name source line _ _ _ _ _ load y text r (faulty_words told n tells) = absurd (n load.command load.spelled)
+  refused_only laws words before name source line _ _ _ _ _ load y text r (no_such_watcher d s none) = absurd (not_there words before d load.command s load.spelled none load.there)
+  refused_only laws words before name source line _ _ _ _ _ load y text r (refused l it) =
       let sources = one_loaded words before load.command name source load.spelled load.file text it.asked.command it.name it.source it.asked.spelled it.asked.file it.text in
       (refl, refl, ap (λ z. z ++ 10 ∷ []) (one_line laws it.source source l line sources it.refusal r), refl)
-  refused_only laws words before name source line _ _ _ _ load y text r (checked it) = absurd (no_program laws words before name source line load text r Check it refl)
-  refused_only laws words before name source line _ _ _ _ load y text r (listed told a) = absurd (no_program laws words before name source line load text r Code a.asked refl)
-  refused_only laws words before name source line _ _ _ _ load y text r (code_refused l it) = absurd (subst TellsRefusal (one_command words load.command (Run CodeFile it.options it.name) load.spelled it.spelled) y)
-  refused_only laws words before name source line _ _ _ _ load y text r (built bytes a) = absurd (no_program laws words before name source line load text r Build a.asked refl)
-  refused_only laws words before name source line _ _ _ _ load y text r (too_long_built it long) = absurd (no_program laws words before name source line load text r Build it refl)
-  refused_only laws words before name source line _ _ _ _ load y text r (advised told a) = absurd (no_program laws words before name source line load text r Advise a.asked refl)
-  refused_only laws words before name source line _ _ _ _ load y text r (has_repr l it has) = absurd (no_program laws words before name source line load text r Advise it refl)
-  refused_only laws words before name source line _ _ _ _ load y text r (explained told a) = absurd (subst TellsRefusal (one_command words load.command (Explain a.name) load.spelled a.spelled) y)
-  refused_only laws words before name source line _ _ _ _ load y text r (no_fault it) = absurd (no_program laws words before name source line load text r Explain it refl)
-  refused_only laws words before name source line _ _ _ _ load y text r (stop_told k s) = absurd (subst TellsRefusal (one_command words load.command (TellStop k) load.spelled s) y)
-  refused_only laws words before name source line _ _ _ _ load y text r (script_refused l left it) = absurd (no_session laws words before name source line load text r it.program it.based it.asked)
-  refused_only laws words before name source line _ _ _ _ load y text r (debugged told left a taken) = absurd (no_session laws words before name source line load text r a.session.program a.session.based a.asked.asked)
-  refused_only laws words before name source line _ _ _ _ load y text r (run_ended status out err left q) =
+  refused_only laws words before name source line _ _ _ _ _ load y text r (checked it) = absurd (no_program laws words before name source line load text r Check it refl)
+  refused_only laws words before name source line _ _ _ _ _ load y text r (listed told a) = absurd (no_program laws words before name source line load text r Code a.asked refl)
+  refused_only laws words before name source line _ _ _ _ _ load y text r (code_refused l it) = absurd (subst TellsRefusal (one_command words load.command (Run CodeFile it.options it.name) load.spelled it.spelled) y)
+  refused_only laws words before name source line _ _ _ _ _ load y text r (built bytes a) = absurd (no_program laws words before name source line load text r Build a.asked refl)
+  refused_only laws words before name source line _ _ _ _ _ load y text r (too_long_built it long) = absurd (no_program laws words before name source line load text r Build it refl)
+  refused_only laws words before name source line _ _ _ _ _ load y text r (advised told a) = absurd (no_program laws words before name source line load text r Advise a.asked refl)
+  refused_only laws words before name source line _ _ _ _ _ load y text r (has_repr l it has) = absurd (no_program laws words before name source line load text r Advise it refl)
+  refused_only laws words before name source line _ _ _ _ _ load y text r (explained told a) = absurd (subst TellsRefusal (one_command words load.command (Explain a.name) load.spelled a.spelled) y)
+  refused_only laws words before name source line _ _ _ _ _ load y text r (no_fault it) = absurd (no_program laws words before name source line load text r Explain it refl)
+  refused_only laws words before name source line _ _ _ _ _ load y text r (stop_told k s) = absurd (subst TellsRefusal (one_command words load.command (TellStop k) load.spelled s) y)
+  refused_only laws words before name source line _ _ _ _ _ load y text r (script_refused l left it) = absurd (no_session laws words before name source line load text r it.program it.based it.asked)
+  refused_only laws words before name source line _ _ _ _ _ load y text r (debugged told left n a taken) = absurd (no_session laws words before name source line load text r a.session.program a.session.based a.asked.asked)
+  refused_only laws words before name source line _ _ _ _ _ load y text r (run_ended status out err left n q) =
       absurd (refused_not_run laws words before text.texts text.told q.job q.asked load.command name source line load.spelled load.file y (told_text before text.texts text.told name source text.there) r)
-  refused_only laws words before name source line _ _ _ _ load y text r (trial_refused a b l q x) = absurd (no_file words load.command name a b q load.spelled load.file)
-  refused_only laws words before name source line _ _ _ _ load y text r (trial_ended status l end a) = absurd (no_file words load.command name a.tried.seed a.tried.nodes a.tried.spelled load.spelled load.file)
+  refused_only laws words before name source line _ _ _ _ _ load y text r (trial_refused a b l q x) = absurd (no_file words load.command name a b q load.spelled load.file)
+  refused_only laws words before name source line _ _ _ _ _ load y text r (trial_ended status l end a) = absurd (no_file words load.command name a.tried.seed a.tried.nodes a.tried.spelled load.spelled load.file)
 
   -- bytes are refused by one line
   one_flaw_line : OneFlaw → (bytes other line told : List ℕ) → bytes ≡ other → CodeRefusal bytes line → CodeRefusal other told → line ≡ told
@@ -371,14 +372,14 @@ module _ (one_command : OneCommand) where
       r.tells ∙ ap flaw_line flaw ∙ sym q.tells
 
   pub code_refused_only : OneFlaw → NotCodeAndFlawed → RefusesCodeExactly
-  code_refused_only one not_both words before o bytes line _ _ _ _ ask there r (no_such_watcher d s none) = absurd (not_there words before d (Run CodeFile o ask.name) s ask.spelled none there)
-  code_refused_only one not_both words before o bytes line _ _ _ _ ask there r (refused l it) = absurd (subst TellsRefusal (one_command words it.asked.command (Run CodeFile o ask.name) it.asked.spelled ask.spelled) it.tells)
-  code_refused_only one not_both words before o bytes line _ _ _ _ ask there r (code_refused l it) =
+  code_refused_only one not_both words before o bytes line _ _ _ _ _ ask there r (no_such_watcher d s none) = absurd (not_there words before d (Run CodeFile o ask.name) s ask.spelled none there)
+  code_refused_only one not_both words before o bytes line _ _ _ _ _ ask there r (refused l it) = absurd (subst TellsRefusal (one_command words it.asked.command (Run CodeFile o ask.name) it.asked.spelled ask.spelled) it.tells)
+  code_refused_only one not_both words before o bytes line _ _ _ _ _ ask there r (code_refused l it) =
       let sources = one_loaded words before (Run CodeFile o ask.name) ask.name bytes ask.spelled refl ask.text (Run CodeFile it.options it.name) it.name it.bytes it.spelled refl it.text in
       (refl, refl, ap (λ z. z ++ 10 ∷ []) (one_flaw_line one it.bytes bytes l line sources it.refusal r), refl)
-  code_refused_only one not_both words before o bytes line _ _ _ _ ask there r (run_ended status out err left q) =
+  code_refused_only one not_both words before o bytes line _ _ _ _ _ ask there r (run_ended status out err left n q) =
       absurd (code_not_run not_both words before ask.text.texts ask.text.told q.job q.asked o ask.name bytes line ask.spelled (told_text before ask.text.texts ask.text.told ask.name bytes ask.text.there) r)
-  code_refused_only one not_both words before o bytes line st out e left ask there r a = let number = answers_it words before st out e left a (Run CodeFile o ask.name) ask.spelled in absurd (omega (arith, number))
+  code_refused_only one not_both words before o bytes line st out e left n ask there r a = let number = answers_it words before st out e left n a (Run CodeFile o ask.name) ask.spelled in absurd (omega (arith, number))
 
   -- ---- what is asked of a source
 
@@ -399,29 +400,29 @@ module _ (one_command : OneCommand) where
   -- ---- checks
 
   pub checks_only : FrontLaws → ChecksExactly
-  checks_only laws words before source _ _ _ _ ask (no_such_watcher d s none) = absurd (not_there words before d (Check ask.name) s ask.spelled none tt)
-  checks_only laws words before source _ _ _ _ ask (refused l it) =
+  checks_only laws words before source _ _ _ _ _ ask (no_such_watcher d s none) = absurd (not_there words before d (Check ask.name) s ask.spelled none tt)
+  checks_only laws words before source _ _ _ _ _ ask (refused l it) =
       let why = refused_so words before Check source ask refl l it in
       (((λ (e : Refused ≡ Done). absurd (cc)), λ p. absurd (not_refused laws source it.refusal.reason why p.0 p.1)), refl, (λ (e : Refused ≡ Done). absurd (cc)), refl)
-  checks_only laws words before source _ _ _ _ ask (checked it) =
+  checks_only laws words before source _ _ _ _ _ ask (checked it) =
       (((λ _. (it.tree, program_so words before Check source ask refl Check it refl)), (λ _. refl)), refl, (λ _. refl), refl)
-  checks_only laws words before source _ _ _ _ ask (run_ended status out err left q) = absurd (runs_so words before q.job (Check ask.name) q.asked ask.spelled)
-  checks_only laws words before source st out e left ask a = let number = answers_it words before st out e left a (Check ask.name) ask.spelled in absurd (omega (arith, number))
+  checks_only laws words before source _ _ _ _ _ ask (run_ended status out err left n q) = absurd (runs_so words before q.job (Check ask.name) q.asked ask.spelled)
+  checks_only laws words before source st out e left n ask a = let number = answers_it words before st out e left n a (Check ask.name) ask.spelled in absurd (omega (arith, number))
 
   -- ---- listings
 
   pub lists_only : FrontLaws → ListsExactly
-  lists_only laws words before source _ _ _ _ ask (no_such_watcher d s none) = absurd (not_there words before d (Code ask.name) s ask.spelled none tt)
-  lists_only laws words before source _ _ _ _ ask (refused l it) =
+  lists_only laws words before source _ _ _ _ _ ask (no_such_watcher d s none) = absurd (not_there words before d (Code ask.name) s ask.spelled none tt)
+  lists_only laws words before source _ _ _ _ _ ask (refused l it) =
       let why = refused_so words before Code source ask refl l it in
       let none = not_refused laws source it.refusal.reason why in
       (((λ (e : Refused ≡ Done). absurd (cc)), λ p. absurd (none p.0 p.1)), (λ tree p. absurd (none tree p)), inr (refl, refl), refl)
-  lists_only laws words before source _ _ _ _ ask (listed text a) =
+  lists_only laws words before source _ _ _ _ _ ask (listed text a) =
       let it = a.asked in
       let program = program_so words before Code source ask refl Code it refl in
       (((λ _. (it.tree, program)), (λ _. refl)), (λ tree p. (subst (λ y. IsListing y text) (one_program_tree laws source it.tree tree program p) a.is_listing, refl)), inl refl, refl)
-  lists_only laws words before source _ _ _ _ ask (run_ended status out err left q) = absurd (runs_so words before q.job (Code ask.name) q.asked ask.spelled)
-  lists_only laws words before source st out e left ask a = let number = answers_it words before st out e left a (Code ask.name) ask.spelled in absurd (omega (arith, number))
+  lists_only laws words before source _ _ _ _ _ ask (run_ended status out err left n q) = absurd (runs_so words before q.job (Code ask.name) q.asked ask.spelled)
+  lists_only laws words before source st out e left n ask a = let number = answers_it words before st out e left n a (Code ask.name) ask.spelled in absurd (omega (arith, number))
 
   -- ---- advice
 
@@ -437,12 +438,12 @@ module _ (one_command : OneCommand) where
       h.tells ∙ ap has_repr_line at ∙ sym k.tells
 
   pub advises_only : FrontLaws → AdvisesExactly
-  advises_only laws words before source _ _ _ _ ask (no_such_watcher d s none) = absurd (not_there words before d (Advise ask.name) s ask.spelled none tt)
-  advises_only laws words before source _ _ _ _ ask (refused l it) =
+  advises_only laws words before source _ _ _ _ _ ask (no_such_watcher d s none) = absurd (not_there words before d (Advise ask.name) s ask.spelled none tt)
+  advises_only laws words before source _ _ _ _ _ ask (refused l it) =
       let why = refused_so words before Advise source ask refl l it in
       let none = not_refused laws source it.refusal.reason why in
       (((λ (e : Refused ≡ Done). absurd (cc)), λ p. absurd (none p.0 p.1)), (λ tree p bare. absurd (none tree p)), (λ tree line p has. absurd (none tree p)), refl)
-  advises_only laws words before source _ _ _ _ ask (advised text a) =
+  advises_only laws words before source _ _ _ _ _ ask (advised text a) =
       let it = a.asked in
       let sources = same_source words before Advise source ask refl (Advise it.name) it.name it.source it.spelled refl it.text in
       let program = program_so words before Advise source ask refl Advise it refl in
@@ -453,7 +454,7 @@ module _ (one_command : OneCommand) where
         (λ tree line p has. absurd (has_none tree line (ap (λ (y : Tree). y.modes) (sym (one tree program p)) ∙ is.bare) has)),
         refl,
       )
-  advises_only laws words before source _ _ _ _ ask (has_repr l it has) =
+  advises_only laws words before source _ _ _ _ _ ask (has_repr l it has) =
       let program = program_so words before Advise source ask refl Advise it refl in
       let none : (other : Tree) → IsProgram source other → other.modes ≡ [] → ⊥ =
       λ other q bare. has_none it.tree l (ap (λ (y : Tree). y.modes) (one_program_tree laws source it.tree other program q) ∙ bare) has in (
@@ -462,24 +463,24 @@ module _ (one_command : OneCommand) where
         (λ other line q k. (refl, refl, ap (λ z. z ++ 10 ∷ []) (one_repr it.tree other l line (one_program_tree laws source it.tree other program q) has k))),
         refl,
       )
-  advises_only laws words before source _ _ _ _ ask (run_ended status out err left q) = absurd (runs_so words before q.job (Advise ask.name) q.asked ask.spelled)
-  advises_only laws words before source st out e left ask a = let number = answers_it words before st out e left a (Advise ask.name) ask.spelled in absurd (omega (arith, number))
+  advises_only laws words before source _ _ _ _ _ ask (run_ended status out err left n q) = absurd (runs_so words before q.job (Advise ask.name) q.asked ask.spelled)
+  advises_only laws words before source st out e left n ask a = let number = answers_it words before st out e left n a (Advise ask.name) ask.spelled in absurd (omega (arith, number))
 
   -- ---- explanations
 
   pub explains_only : FrontLaws → ExplainsExactly
-  explains_only laws words before source _ _ _ _ ask (no_such_watcher d s none) = absurd (not_there words before d (Explain ask.name) s ask.spelled none tt)
-  explains_only laws words before source _ _ _ _ ask (refused l it) = absurd (subst TellsRefusal (one_command words it.asked.command (Explain ask.name) it.asked.spelled ask.spelled) it.tells)
-  explains_only laws words before source _ _ _ _ ask (explained text a) =
+  explains_only laws words before source _ _ _ _ _ ask (no_such_watcher d s none) = absurd (not_there words before d (Explain ask.name) s ask.spelled none tt)
+  explains_only laws words before source _ _ _ _ _ ask (refused l it) = absurd (subst TellsRefusal (one_command words it.asked.command (Explain ask.name) it.asked.spelled ask.spelled) it.tells)
+  explains_only laws words before source _ _ _ _ _ ask (explained text a) =
       let sources = same_source words before Explain source ask refl (Explain a.name) a.name a.source a.spelled refl a.text_of in
       let why = subst (λ z. IsRefusedFor z a.reason) sources a.refused_for in
       let is = subst (λ z. IsExplained z a.reason text) sources a.is_explained in
       ((λ tree p. absurd (not_refused laws source a.reason why tree p)), (λ other q. (refl, subst (λ z. IsExplained source z text) (one_reason laws source a.reason other why q) is)), refl, refl)
-  explains_only laws words before source _ _ _ _ ask (no_fault it) =
+  explains_only laws words before source _ _ _ _ _ ask (no_fault it) =
       let program = program_so words before Explain source ask refl Explain it refl in
       ((λ _ _. (refl, refl)), (λ why q. absurd (not_refused laws source why q it.tree program)), refl, refl)
-  explains_only laws words before source _ _ _ _ ask (run_ended status out err left q) = absurd (runs_so words before q.job (Explain ask.name) q.asked ask.spelled)
-  explains_only laws words before source st out e left ask a = let number = answers_it words before st out e left a (Explain ask.name) ask.spelled in absurd (omega (arith, number))
+  explains_only laws words before source _ _ _ _ _ ask (run_ended status out err left n q) = absurd (runs_so words before q.job (Explain ask.name) q.asked ask.spelled)
+  explains_only laws words before source st out e left n ask a = let number = answers_it words before st out e left n a (Explain ask.name) ask.spelled in absurd (omega (arith, number))
 
   -- ---- runs
 
@@ -531,30 +532,31 @@ module _ (one_command : OneCommand) where
     pub dumped : means.dump ≡ dump
 
   pub ends_only : FrontLaws → OneImage → NotCodeAndFlawed → EndsExactly
-  ends_only laws images not_both words before input job said end _ _ _ _ t i a m (faulty_words told n tells) = absurd (n a.command a.spelled)
-  ends_only laws images not_both words before input job said end _ _ _ _ t i a m (no_such_watcher d s' none) = absurd (not_there words before d a.command s' a.spelled none a.there)
-  ends_only laws images not_both words before input job said end _ _ _ _ t i a m (refused l it) = absurd (refused_not_run laws words before t.0 t.1 job a it.asked.command it.name it.source l it.asked.spelled it.asked.file it.tells it.text it.refusal)
-  ends_only laws images not_both words before input job said end _ _ _ _ t i a m (code_refused l it) = absurd (code_not_run not_both words before t.0 t.1 job a it.options it.name it.bytes l it.spelled it.text it.refusal)
-  ends_only laws images not_both words before input job said end _ _ _ _ t i a m (checked it) = absurd (runs_so words before job (Check it.name) a it.spelled)
-  ends_only laws images not_both words before input job said end _ _ _ _ t i a m (listed text l) = absurd (runs_so words before job (Code l.asked.name) a l.asked.spelled)
-  ends_only laws images not_both words before input job said end _ _ _ _ t i a m (built bytes l) = absurd (runs_so words before job (Build l.asked.name) a l.asked.spelled)
-  ends_only laws images not_both words before input job said end _ _ _ _ t i a m (too_long_built it long) = absurd (runs_so words before job (Build it.name) a it.spelled)
-  ends_only laws images not_both words before input job said end _ _ _ _ t i a m (advised text l) = absurd (runs_so words before job (Advise l.asked.name) a l.asked.spelled)
-  ends_only laws images not_both words before input job said end _ _ _ _ t i a m (has_repr k it has) = absurd (runs_so words before job (Advise it.name) a it.spelled)
-  ends_only laws images not_both words before input job said end _ _ _ _ t i a m (explained text l) = absurd (runs_so words before job (Explain l.name) a l.spelled)
-  ends_only laws images not_both words before input job said end _ _ _ _ t i a m (no_fault it) = absurd (runs_so words before job (Explain it.name) a it.spelled)
-  ends_only laws images not_both words before input job said end _ _ _ _ t i a m (stop_told k s') = absurd (runs_so words before job (TellStop k) a s')
-  ends_only laws images not_both words before input job said end _ _ _ _ t i a m (script_refused l left it) = absurd (runs_so words before job (Debug it.based it.asked.name) a it.asked.spelled)
-  ends_only laws images not_both words before input job said end _ _ _ _ t i a m (debugged told left q taken) = absurd (runs_so words before job (Debug q.session.based q.asked.asked.name) a q.asked.asked.spelled)
-  ends_only laws images not_both words before input job said end _ _ _ _ t i a m (trial_refused n k l q r) = absurd (runs_so words before job (Trial n k) a q)
-  ends_only laws images not_both words before input job said end _ _ _ _ t i a m (trial_ended status l last b) = absurd (runs_so words before job (Trial b.tried.seed b.tried.nodes) a b.tried.spelled)
-  ends_only laws images not_both words before input job said end _ _ _ _ t i a m (run_ended status out err left r) =
+  ends_only laws images not_both words before input job said end _ _ _ _ _ t i a m (faulty_words told n tells) = absurd (n a.command a.spelled)
+  ends_only laws images not_both words before input job said end _ _ _ _ _ t i a m (no_such_watcher d s' none) = absurd (not_there words before d a.command s' a.spelled none a.there)
+  ends_only laws images not_both words before input job said end _ _ _ _ _ t i a m (refused l it) = absurd (refused_not_run laws words before t.0 t.1 job a it.asked.command it.name it.source l it.asked.spelled it.asked.file it.tells it.text it.refusal)
+  ends_only laws images not_both words before input job said end _ _ _ _ _ t i a m (code_refused l it) = absurd (code_not_run not_both words before t.0 t.1 job a it.options it.name it.bytes l it.spelled it.text it.refusal)
+  ends_only laws images not_both words before input job said end _ _ _ _ _ t i a m (checked it) = absurd (runs_so words before job (Check it.name) a it.spelled)
+  ends_only laws images not_both words before input job said end _ _ _ _ _ t i a m (listed text l) = absurd (runs_so words before job (Code l.asked.name) a l.asked.spelled)
+  ends_only laws images not_both words before input job said end _ _ _ _ _ t i a m (built bytes l) = absurd (runs_so words before job (Build l.asked.name) a l.asked.spelled)
+  ends_only laws images not_both words before input job said end _ _ _ _ _ t i a m (too_long_built it long) = absurd (runs_so words before job (Build it.name) a it.spelled)
+  ends_only laws images not_both words before input job said end _ _ _ _ _ t i a m (advised text l) = absurd (runs_so words before job (Advise l.asked.name) a l.asked.spelled)
+  ends_only laws images not_both words before input job said end _ _ _ _ _ t i a m (has_repr k it has) = absurd (runs_so words before job (Advise it.name) a it.spelled)
+  ends_only laws images not_both words before input job said end _ _ _ _ _ t i a m (explained text l) = absurd (runs_so words before job (Explain l.name) a l.spelled)
+  ends_only laws images not_both words before input job said end _ _ _ _ _ t i a m (no_fault it) = absurd (runs_so words before job (Explain it.name) a it.spelled)
+  ends_only laws images not_both words before input job said end _ _ _ _ _ t i a m (stop_told k s') = absurd (runs_so words before job (TellStop k) a s')
+  ends_only laws images not_both words before input job said end _ _ _ _ _ t i a m (script_refused l left it) = absurd (runs_so words before job (Debug it.based it.asked.name) a it.asked.spelled)
+  ends_only laws images not_both words before input job said end _ _ _ _ _ t i a m (debugged told left n q taken) = absurd (runs_so words before job (Debug q.session.based q.asked.asked.name) a q.asked.asked.spelled)
+  ends_only laws images not_both words before input job said end _ _ _ _ _ t i a m (trial_refused n k l q r) = absurd (runs_so words before job (Trial n k) a q)
+  ends_only laws images not_both words before input job said end _ _ _ _ _ t i a m (trial_ended status l last b) = absurd (runs_so words before job (Trial b.tried.seed b.tried.nodes) a b.tried.spelled)
+  ends_only laws images not_both words before input job said end _ _ _ _ _ t i a m (run_ended status out err left n r) =
       let same = one_job laws images words before t.0 input t.1 i r.job job r.asked a in
       let moved = subst (λ (j : Job). Ended j out r.end r.means.events r.means.dump) same (record { means = r.means; told = refl; dumped = refl }) in
       let both = one_meant job.runnable job.input job.turns job.based out said r.end end moved.means m in (
         sym (ap status_of both.1) ∙ r.ends,
         both.0,
         r.tells ∙ (λ x. (if (ap (λ (j : Job). j.dump) same) x then (sym moved.dumped ∙ both.3) x else []) ++ reports_of ((ap (λ (j : Job). j.watchers) same) x) ((sym moved.told ∙ both.2) x) ++ error_line (both.1 x)),
+        r.writes ∙ ap (λ es. more (prints es) before.output.calls) (sym moved.told ∙ both.2),
       )
 
   -- ---- trials
@@ -578,11 +580,11 @@ module _ (one_command : OneCommand) where
       (a.is_line ∙ ap₂ line_for same both.0 ∙ sym b.is_line, both.1)
 
   pub tries_only : FrontLaws → OneMeaning → TriesExactly
-  tries_only laws meaning words before line end _ _ _ _ a (no_such_watcher d s none) = absurd (not_there words before d (Trial a.seed a.nodes) s a.spelled none tt)
-  tries_only laws meaning words before line end _ _ _ _ a (refused l it) = absurd (no_file words it.asked.command it.name a.seed a.nodes a.spelled it.asked.spelled it.asked.file)
-  tries_only laws meaning words before line end _ _ _ _ a (run_ended status out err left q) = absurd (runs_so words before q.job (Trial a.seed a.nodes) q.asked a.spelled)
-  tries_only laws meaning words before line end _ _ _ _ a (trial_refused n k l s r) = absurd (not_refused laws trial_source r.reason r.refused a.accepted.tree a.accepted.is_program)
-  tries_only laws meaning words before line end _ _ _ _ a (trial_ended status l last b) =
+  tries_only laws meaning words before line end _ _ _ _ _ a (no_such_watcher d s none) = absurd (not_there words before d (Trial a.seed a.nodes) s a.spelled none tt)
+  tries_only laws meaning words before line end _ _ _ _ _ a (refused l it) = absurd (no_file words it.asked.command it.name a.seed a.nodes a.spelled it.asked.spelled it.asked.file)
+  tries_only laws meaning words before line end _ _ _ _ _ a (run_ended status out err left n q) = absurd (runs_so words before q.job (Trial a.seed a.nodes) q.asked a.spelled)
+  tries_only laws meaning words before line end _ _ _ _ _ a (trial_refused n k l s r) = absurd (not_refused laws trial_source r.reason r.refused a.accepted.tree a.accepted.is_program)
+  tries_only laws meaning words before line end _ _ _ _ _ a (trial_ended status l last b) =
       let same = one_trial laws meaning words l line last end b.tried a in
       (sym (ap status_of same.1) ∙ b.ends, ap₂ trial_output same.1 same.0, ap error_line same.1, refl)
-  tries_only laws meaning words before line end st out e left a b = let number = answers_it words before st out e left b (Trial a.seed a.nodes) a.spelled in absurd (omega (arith, number))
+  tries_only laws meaning words before line end st out e left n a b = let number = answers_it words before st out e left n b (Trial a.seed a.nodes) a.spelled in absurd (omega (arith, number))

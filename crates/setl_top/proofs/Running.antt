@@ -3,6 +3,7 @@ use Rattle.std.proofs.Common.{◌≡◌, ◌∙◌, ◌⊎◌, inl, inr, ℕ, ze
 use Rattle.std.proofs.lemmas.List.{append-nil}
 use Rattle.std.specs.Result.{result_unwrap_or}
 use Rattle.std.specs.Io.KnownBytes.{Appends, append_known}
+use Rattle.setl_io.specs.Faults.{more}
 use Rattle.setl_io.specs.Sink.{AppendsPart}
 use Rattle.setl_text.specs.code.Reads.{TakesOff, StaysHonest, ahead}
 use Rattle.setl_model_runs.specs.Events as run
@@ -27,6 +28,8 @@ use Rattle.setl_machine_control.specs.Declaring.{Modes, tested, AreOfMain}
 use Rattle.setl_machine_control.specs.Declaring as declaring
 use Rattle.setl_machine.specs.Gaining.{NextGains, RunGains}
 use Rattle.setl_machine.specs.Hearing.{events_told, Hears}
+use Rattle.setl_machine.specs.Prints.{prints}
+use Rattle.setl_machine.specs.Writing.{RunWrites}
 use Rattle.setl_machine_layout.specs.Claims.{AllNameWithin, BasesStayAsMany, LaysOut, RunsLayOut}
 use Rattle.setl_machine_control.specs.Answers.{IsLikely, kind_of, said, start}
 use Rattle.setl_machine.specs.Outcome.{AtPrint, AtRead, Before, NoFault, EndsWriteNothing}
@@ -102,7 +105,7 @@ is_rest None = tt
 is_rest (Some left) = refl
 
 pub input_of_rest : (a : Option (List ℕ)) (bytes : List ℕ) → IsRest a bytes → IsInput a bytes
-input_of_rest None bytes h = tt
+input_of_rest None bytes h = h
 input_of_rest (Some left) bytes h = h
 
 -- what a reader keeps, and what it has still to come
@@ -147,8 +150,8 @@ module _ (r : Runnable) (c : Code) (silent : EndsWriteNothing) (asked : Options)
   told_front x = if dumps asked then last_dump (bases_by r) (counted asked r) x else []
 
   -- the run ended in the meaning's sense
-  coming_to : (n : ℕ) (last : CodeCore) (e : run.End) → EndsAs (coded r c asked input n) last e → IsLeft s.input.held u.input.held last.world.input → Appends s.output.held u.output.held (said (coded r c asked input n)) → NoFault (seen_of s) (seen_of u) → (heard : Watched) → heard ≡ told_all (events_told (coded r c asked input n)) s.watchers → u.watchers ≡ headed (told_front (coded r c asked input n)) heard → RunsTo r asked s u e
-  coming_to n last e x left gained count heard told fronted =
+  coming_to : (n : ℕ) (last : CodeCore) (e : run.End) → EndsAs (coded r c asked input n) last e → IsLeft s.input.held u.input.held last.world.input → Appends s.output.held u.output.held (said (coded r c asked input n)) → NoFault (seen_of s) (seen_of u) → u.output.calls ≡ more (prints (events_told (coded r c asked input n))) s.output.calls → (heard : Watched) → heard ≡ told_all (events_told (coded r c asked input n)) s.watchers → u.watchers ≡ headed (told_front (coded r c asked input n)) heard → RunsTo r asked s u e
+  coming_to n last e x left gained count wrote heard told fronted =
       let there = stands.ends n e x.state x.is in
       let reach = ends_at (machine c) (Taken r c asked input) (silent c (counted asked r)) n (code_first c input asked.turns) x.state e x.is in
       record {
@@ -159,6 +162,10 @@ module _ (r : Runnable) (c : Code) (silent : EndsWriteNothing) (asked : Options)
         at_end = subst (λ o. IsAt r input asked.turns asked.based o) reach.3 (stands.state reach.1 (reach.0, reach.2));
         left = subst (IsLeft s.input.held u.input.held) (sym there.left) (left_of x.state.core last s.input.held u.input.held x.likely left);
         gained = subst (Appends s.output.held u.output.held) (ap said x.is) gained;
+        writes =
+            wrote
+            ∙ ap (λ y. more (prints (events_told y)) s.output.calls) x.is
+            ∙ ap (λ es. more (prints es) s.output.calls) (sym there.events);
         input_count = count.1;
         out_count = count.0;
         told =
@@ -221,11 +228,11 @@ module _ (r : Runnable) (c : Code) (silent : EndsWriteNothing) (asked : Options)
   -- it is one of what is run
   runs_so : (e : End) (x : Ran e) → Fronted e x → Runs r asked s u e
   runs_so end.Done x f =
-      coming_to r c silent asked s u x.input (stands x.input) x.known x.steps x.last run.Done (done (counted asked r) (coded r c asked x.input x.steps) x.last x.ran.0) x.left x.ran.1 x.ran.2 heard x.heard f
+      coming_to r c silent asked s u x.input (stands x.input) x.known x.steps x.last run.Done (done (counted asked r) (coded r c asked x.input x.steps) x.last x.ran.0) x.left x.ran.1 x.ran.2 x.wrote heard x.heard f
   runs_so (end.Stopped why line) x f =
-      coming_to r c silent asked s u x.input (stands x.input) x.known x.steps x.last (run.Stopped (kind_of (counted asked r) why) line) (stopped (counted asked r) (coded r c asked x.input x.steps) x.last why line x.ran.0) x.left x.ran.1 x.ran.2 heard x.heard f
+      coming_to r c silent asked s u x.input (stands x.input) x.known x.steps x.last (run.Stopped (kind_of (counted asked r) why) line) (stopped (counted asked r) (coded r c asked x.input x.steps) x.last why line x.ran.0) x.left x.ran.1 x.ran.2 x.wrote heard x.heard f
   runs_so end.Spent x f =
-      coming_to r c silent asked s u x.input (stands x.input) x.known x.steps x.last run.Spent (spent (counted asked r) (coded r c asked x.input x.steps) x.last x.ran.0) x.left x.ran.1 x.ran.2 heard x.heard f
+      coming_to r c silent asked s u x.input (stands x.input) x.known x.steps x.last run.Spent (spent (counted asked r) (coded r c asked x.input x.steps) x.last x.ran.0) x.left x.ran.1 x.ran.2 x.wrote heard x.heard f
   runs_so end.ReadFault x f = (reading r c silent asked s u x.input (stands x.input) x.known x.steps x.ran.0 x.ran.1 x.ran.2 x.ran.3 x.ran.4, x.ran.5, x.ran.6)
   runs_so end.WriteFault x f = (writing r c silent asked s u x.input (stands x.input) x.known x.steps x.ran.0 x.ran.1 x.last x.ran.2 x.ran.3 x.ran.4 x.ran.7 x.left, x.ran.5, x.ran.6)
   runs_so end.NoMemory x f =
@@ -342,6 +349,7 @@ module _ (modes : Modes) (turns : ℕ) where
       × outcome.ReadsOnly modes (plain_code old.code) n (stood_for old.core first rest) s.output.held u.output.held s.input.held u.input.held
       × Hears modes (plain_code old.code) n (stood_for old.core first rest) s.watchers u.watchers e
       × RunGains modes (plain_code old.code) n (stood_for old.core first rest) old.bases new.bases e
+      × RunWrites modes (plain_code old.code) n (stood_for old.core first rest) s.output.calls u.output.calls e
 
   -- It ran a code whose store told so many bases at first, and the store is this at the end.
   pub record CodeRan (count : ℕ) (code : RustCode) (new : Standing) (s u : Streams) (e : End) : Type 0 where
@@ -366,6 +374,7 @@ module _ (modes : Modes) (turns : ℕ) where
           took = took;
           whole = whole;
           heard = r.5;
+          wrote = r.7;
         };
         world = world_of control rest;
         stands = refl;

@@ -1,5 +1,5 @@
 -- How a session of the debugger makes its headline, and what it takes of the input.
-use Rattle.std.proofs.Common.{◌≡◌, inl, ℕ, Bool, List, [], ◌∷◌, ◌++◌, take, refl}
+use Rattle.std.proofs.Common.{◌≡◌, inl, ℕ, Bool, List, [], ◌∷◌, ◌++◌, take, refl, sym, subst}
 use Rattle.setl_debug_script.specs.declared.command.Command.{Command as ScriptCommand}
 use Rattle.setl_program.specs.ProgramOf.{program_of}
 use Rattle.setl_tree.specs.declared.tree.Tree.{Tree}
@@ -13,11 +13,11 @@ use Rattle.setl_top_status.specs.declared.status.Status.{Status}
 use Rattle.setl_top_status.specs.declared.status.Status.TheVariants.{Refused}
 use Rattle.setl_top.specs.code.Debugs.{Debugs, debugged_so, no_script, not_debugged, session_of}
 use Rattle.setl_top.specs.code.Loads.{Loaded}
-use Rattle.setl_top.specs.Headline.{IsToDebug, IsDebuggedUpTo, script_refused, debugged, no_program, in_session, script_failed, session_failed, at_work, MemoryFailed, LoadsAsked, InputLeft, untouched, script_taken, Headline}
+use Rattle.setl_top.specs.Headline.{IsToDebug, IsDebuggedUpTo, script_refused, debugged, no_program, in_session, Answers, script_failed, session_failed, at_work, MemoryFailed, LoadsAsked, InputLeft, untouched, script_taken, Headline}
 use Rattle.setl_top.specs.Outside.{Outside}
 use Rattle.setl_top.specs.Requests.{IsToFollow}
 use Rattle.setl_top_words.specs.Words.{Spells, Debug}
-use Rattle.setl_top.proofs.Ends.{loads, told, appends_same, count_same, not_loaded}
+use Rattle.setl_top.proofs.Ends.{loads, told, appends_same, calls_same, count_same, not_loaded}
 
 module _ (words : List (List ℕ)) (before after : Outside) (based : Bool) (name : List ℕ) (s : Spells words (Debug based name)) where
   -- there is to be a session over the program of the file
@@ -39,11 +39,12 @@ module _ (words : List (List ℕ)) (before after : Outside) (based : Bool) (name
       follow_ends _ (followed text is gained count still) = record {
         out = text;
         err = [];
-        answer = debugged text after.input.held (record { session = session_of tree based script; asked = to_follow; tells = is }) t.taken.0;
+        answer = debugged text after.input.held after.output.calls (record { session = session_of tree based script; asked = to_follow; tells = is }) t.taken.0;
         out_gained = gained;
         err_gained = appends_same before.error_output after.error_output still;
         quiet = record { files = files; input = t.count; output = count };
         told = count_same before.error_output after.error_output still;
+        piece = calls_same before.error_output after.error_output still;
         silent = λ _. still;
       }
       follow_ends _ (unwritten count text n is part gained rose h) = record {
@@ -75,7 +76,8 @@ module _ (words : List (List ℕ)) (before after : Outside) (based : Bool) (name
 
       script_ends : (r : Status) → NoScript before.input after.input before.error_output after.error_output r → Headline words before after r
       script_ends r (not_spelled bytes _ taken count (refused_bytes line _ why t)) =
-          told words before after Refused [] (line ++ 10 ∷ []) (λ e. e) (script_refused line after.input.held (record { program = program_of tree; based = based; bytes = bytes; asked = to_debug tree l; taken = taken; refusal = why })) (appends_same before.output after.output none) (record { files = files; input = count; output = count_same before.output after.output none }) r t
+          let answer : Answers words before Refused [] (line ++ 10 ∷ []) after.input.held before.output.calls = script_refused line after.input.held (record { program = program_of tree; based = based; bytes = bytes; asked = to_debug tree l; taken = taken; refusal = why }) in
+          told words before after Refused [] (line ++ 10 ∷ []) (λ e. e) (subst (Answers words before Refused [] (line ++ 10 ∷ []) after.input.held) (sym (calls_same before.output after.output none)) answer) (appends_same before.output after.output none) (record { files = files; input = count; output = count_same before.output after.output none }) r t
       script_ends _ (not_spelled bytes _ taken count (starved_of_script h)) = starved_of count h
       script_ends _ (unread_script taken c rose h) = record {
         out = [];

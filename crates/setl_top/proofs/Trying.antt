@@ -19,7 +19,7 @@ use Rattle.setl_top.specs.code.Tells.{TellsEnd}
 use Rattle.setl_top.specs.code.Tries.{trial_options, RunEnds, TrialRuns, Tries, trial_refused, trial_done, trial_stopped, trial_spent, trial_starved}
 use Rattle.setl_top_status.specs.Ends.{status_of, error_line}
 use Rattle.setl_top_status.specs.Reasons.{reason_line}
-use Rattle.setl_top_status.specs.Seen.{Seen}
+use Rattle.setl_top_status.specs.Seen.{Seen, one_piece}
 use Rattle.setl_top_status.specs.code.Tells.{Tells}
 use Rattle.setl_top_status.specs.declared.status.Status.{Status}
 use Rattle.setl_top_status.specs.declared.status.Status.TheVariants.{Done, Refused, Stopped, Spent}
@@ -86,14 +86,14 @@ module _ (one : OneCommand) (words : List (List ℕ)) (before after : Outside) (
   tried : (printed : List ℕ) (e : run.End) → TrialRuns seed nodes printed e → IsTried words (trial_line seed nodes printed) e
   tried printed e m = record { seed = seed; nodes = nodes; program = m.program; printed = printed; spelled = s; accepted = m.accepted; means = m.means; is_line = refl }
 
-  answer : (printed : List ℕ) (e : run.End) (status : Status) → TrialRuns seed nodes printed e → status_of e ≡ Some status → Answers words before status (trial_output e (trial_line seed nodes printed)) (error_line e) before.input.held
+  answer : (printed : List ℕ) (e : run.End) (status : Status) → TrialRuns seed nodes printed e → status_of e ≡ Some status → Answers words before status (trial_output e (trial_line seed nodes printed)) (error_line e) before.input.held (one_piece (trial_output e (trial_line seed nodes printed)) before.output.calls)
   answer printed e status m how = trial_ended status (trial_line seed nodes printed) e (record { tried = tried printed e m; ends = how })
 
   no_load : LoadsAsked words before after
   no_load = loads_none (no_file one words before (Trial seed nodes) s (λ name f. f)) rest.files
 
   -- the last line was told, or not, and nothing was written
-  silent : (status : Status) (line : List ℕ) → (Ended words before after status → Headline words before after status) → Answers words before status [] line before.input.held → after.output ≡ before.output → (r : Status) → Tells status line before.error_output after.error_output r → Headline words before after r
+  silent : (status : Status) (line : List ℕ) → (Ended words before after status → Headline words before after status) → Answers words before status [] line before.input.held before.output.calls → after.output ≡ before.output → (r : Status) → Tells status line before.error_output after.error_output r → Headline words before after r
   silent status line ends a still r t = told_alone words before after status line ends a no_load (record { input = rest.input; output = still }) r t
 
   -- what a trial does makes its headline

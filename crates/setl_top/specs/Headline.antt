@@ -1,7 +1,8 @@
 -- What a call of the program answers, and what it does to the outside.
 use Rattle.std.specs.Prelude.{◌≡◌, ◌⊎◌, ◌<◌, ◌≤◌, ℕ, Bool, List, [], ◌∷◌, ◌++◌, length, take, if◌then◌else◌, Option, None, Some, ⊤}
 use Rattle.std.specs.Io.KnownBytes.{Appends, Consumes, prepend_known}
-use Rattle.setl_io.specs.Faults.{Rose, one_more}
+use Rattle.setl_io.specs.Faults.{Rose, more, one_more}
+use Rattle.setl_machine.specs.Prints.{prints}
 use Rattle.setl_model_runs.specs.Events.{End}
 use Rattle.setl_model_runs.specs.Events as run
 use Rattle.setl_program.specs.Program.{Program}
@@ -19,7 +20,7 @@ use Rattle.setl_top_images.specs.CodeFiles.{flaw_line}
 use Rattle.setl_top_images.specs.declared.images.Flaw.TheVariants.{TooLong}
 use Rattle.setl_top_status.specs.Ends.{status_of, error_line}
 use Rattle.setl_top_status.specs.Lines.{BreaksIn, TriesLine, fault_line}
-use Rattle.setl_top_status.specs.Seen.{CountRose, CountStays, LoadsOnce, FailsOnce}
+use Rattle.setl_top_status.specs.Seen.{CountRose, CountStays, LoadsOnce, FailsOnce, one_piece}
 use Rattle.setl_top_status.specs.declared.fault.Fault.TheVariants as fault
 use Rattle.setl_top_status.specs.declared.status.Status.{Status}
 use Rattle.setl_top_status.specs.declared.status.Status.TheVariants.{Done, Refused, Words, Stopped, Spent, ReadFault, WriteFault, NoMemory}
@@ -34,15 +35,16 @@ abbrev pub IsLeft : Option (List ℕ) → Option (List ℕ) → List ℕ → Typ
 IsLeft None left bytes = ⊤
 IsLeft (Some input) left bytes = (kept : List ℕ) × (prepend_known kept left ≡ Some bytes)
 
--- It comes to its end, which has this status, with this output. It leaves what its last state has of the input, but for bytes
--- that were taken ahead. The dump of that state is told, where it is asked for, then its watchers report what they were told of
--- its events, and then comes the error line.
-pub record IsRun (words : List (List ℕ)) (before : Outside) (status : Status) (out err : List ℕ) (left : Option (List ℕ)) : Type 0 where
+-- It comes to its end, which has this status, with this output. Each print is one write, so the output was handed so many pieces.
+-- It leaves what its last state has of the input, but for bytes that were taken ahead. The dump of that state is told, where it is
+-- asked for, then its watchers report what they were told of its events, and then comes the error line.
+pub record IsRun (words : List (List ℕ)) (before : Outside) (status : Status) (out err : List ℕ) (left : Option (List ℕ)) (pieces : Option ℕ) : Type 0 where
   pub job : Job
   pub asked : IsToRun words before job
   pub end : End
   pub ends : status_of end ≡ Some status
   pub means : Meant job.runnable job.input job.turns job.based out end
+  pub writes : pieces ≡ more (prints means.events) before.output.calls
   pub leaves : IsLeft before.input.held left means.left
   pub tells : err ≡ (if job.dump then means.dump else []) ++ reports_of job.watchers means.events ++ error_line end
 
@@ -79,26 +81,27 @@ pub record TrialEnds (words : List (List ℕ)) (status : Status) (line : List �
   pub tried : IsTried words line end
   pub ends : status_of end ≡ Some status
 
--- Where nothing fails: the status, what is added to the output and to the error output, and what is left of the input.
-pub data Answers (words : List (List ℕ)) (before : Outside) : Status → List ℕ → List ℕ → Option (List ℕ) → Type 0 where
-  faulty_words : (told : List ℕ) → IsFaulty words → TellsFaulty words told → Answers words before Words [] told before.input.held
-  no_such_watcher : (command : Command) → Spells words command → (IsThere (watched_by command) before.watchers → ⊥) → Answers words before Words [] no_watcher_line before.input.held
-  refused : (line : List ℕ) → IsToRefuse words before line → Answers words before Refused [] (line ++ 10 ∷ []) before.input.held
-  checked : IsOfProgram words before Check → Answers words before Done [] [] before.input.held
-  code_refused : (line : List ℕ) → IsNoCode words before line → Answers words before Refused [] (line ++ 10 ∷ []) before.input.held
-  listed : (text : List ℕ) → IsToList words before text → Answers words before Done text [] before.input.held
-  built : (bytes : List ℕ) → IsToBuild words before bytes → Answers words before Done bytes [] before.input.held
-  too_long_built : (a : IsOfProgram words before Build) → IsLongCode a.tree → Answers words before Refused [] (flaw_line TooLong ++ 10 ∷ []) before.input.held
-  advised : (text : List ℕ) → IsToAdvise words before text → Answers words before Done text [] before.input.held
-  has_repr : (line : List ℕ) (a : IsOfProgram words before Advise) → HasRepr a.tree line → Answers words before Refused [] (line ++ 10 ∷ []) before.input.held
-  explained : (text : List ℕ) → IsToExplain words before text → Answers words before Refused text [] before.input.held
-  no_fault : IsOfProgram words before Explain → Answers words before Done [] [] before.input.held
-  stop_told : (stop : Stop) → Spells words (TellStop stop) → Answers words before Done (stop_text stop) [] before.input.held
-  script_refused : (line : List ℕ) (left : Option (List ℕ)) → IsNoScript words before line left → Answers words before Refused [] (line ++ 10 ∷ []) left
-  debugged : (told : List ℕ) (left : Option (List ℕ)) → (a : IsDebugged words before told) → Consumes before.input.held left a.asked.bytes → Answers words before Done told [] left
-  run_ended : (status : Status) (out err : List ℕ) (left : Option (List ℕ)) → IsRun words before status out err left → Answers words before status out err left
-  trial_refused : (seed nodes : ℕ) (line : List ℕ) → Spells words (Trial seed nodes) → Refusal trial_source line → Answers words before Refused [] (line ++ 10 ∷ []) before.input.held
-  trial_ended : (status : Status) (line : List ℕ) (end : End) → TrialEnds words status line end → Answers words before status (trial_output end line) (error_line end) before.input.held
+-- Where nothing fails: the status, what is added to the output and to the error output, what is left of the input, and the
+-- output's count of pieces, of which a text is one. How many a session writes isn't said.
+pub data Answers (words : List (List ℕ)) (before : Outside) : Status → (out err : List ℕ) → (left : Option (List ℕ)) → (pieces : Option ℕ) → Type 0 where
+  faulty_words : (told : List ℕ) → IsFaulty words → TellsFaulty words told → Answers words before Words [] told before.input.held before.output.calls
+  no_such_watcher : (command : Command) → Spells words command → (IsThere (watched_by command) before.watchers → ⊥) → Answers words before Words [] no_watcher_line before.input.held before.output.calls
+  refused : (line : List ℕ) → IsToRefuse words before line → Answers words before Refused [] (line ++ 10 ∷ []) before.input.held before.output.calls
+  checked : IsOfProgram words before Check → Answers words before Done [] [] before.input.held before.output.calls
+  code_refused : (line : List ℕ) → IsNoCode words before line → Answers words before Refused [] (line ++ 10 ∷ []) before.input.held before.output.calls
+  listed : (text : List ℕ) → IsToList words before text → Answers words before Done text [] before.input.held (one_piece text before.output.calls)
+  built : (bytes : List ℕ) → IsToBuild words before bytes → Answers words before Done bytes [] before.input.held (one_piece bytes before.output.calls)
+  too_long_built : (a : IsOfProgram words before Build) → IsLongCode a.tree → Answers words before Refused [] (flaw_line TooLong ++ 10 ∷ []) before.input.held before.output.calls
+  advised : (text : List ℕ) → IsToAdvise words before text → Answers words before Done text [] before.input.held (one_piece text before.output.calls)
+  has_repr : (line : List ℕ) (a : IsOfProgram words before Advise) → HasRepr a.tree line → Answers words before Refused [] (line ++ 10 ∷ []) before.input.held before.output.calls
+  explained : (text : List ℕ) → IsToExplain words before text → Answers words before Refused text [] before.input.held (one_piece text before.output.calls)
+  no_fault : IsOfProgram words before Explain → Answers words before Done [] [] before.input.held before.output.calls
+  stop_told : (stop : Stop) → Spells words (TellStop stop) → Answers words before Done (stop_text stop) [] before.input.held (one_piece (stop_text stop) before.output.calls)
+  script_refused : (line : List ℕ) (left : Option (List ℕ)) → IsNoScript words before line left → Answers words before Refused [] (line ++ 10 ∷ []) left before.output.calls
+  debugged : (told : List ℕ) (left : Option (List ℕ)) (pieces : Option ℕ) → (a : IsDebugged words before told) → Consumes before.input.held left a.asked.bytes → Answers words before Done told [] left pieces
+  run_ended : (status : Status) (out err : List ℕ) (left : Option (List ℕ)) (pieces : Option ℕ) → IsRun words before status out err left pieces → Answers words before status out err left pieces
+  trial_refused : (seed nodes : ℕ) (line : List ℕ) → Spells words (Trial seed nodes) → Refusal trial_source line → Answers words before Refused [] (line ++ 10 ∷ []) before.input.held before.output.calls
+  trial_ended : (status : Status) (line : List ℕ) (end : End) → TrialEnds words status line end → Answers words before status (trial_output end line) (error_line end) before.input.held (one_piece (trial_output end line) before.output.calls)
 
 -- The one load of a call: where the words name a file, it is of that file and no fault, and where they name none, there is none.
 pub data LoadsAsked (words : List (List ℕ)) (before after : Outside) : Type 0 where
@@ -111,15 +114,16 @@ pub record IsQuiet (words : List (List ℕ)) (before after : Outside) : Type 0 w
   pub input : CountStays before.input after.input
   pub output : CountStays before.output after.output
 
--- the call came to its end; where nothing is told, the error output is as before
+-- the call came to its end; what is told is one piece, and where nothing is told, the error output is as before
 pub record Ended (words : List (List ℕ)) (before after : Outside) (status : Status) : Type 0 where
   pub out : List ℕ
   pub err : List ℕ
-  pub answer : Answers words before status out err after.input.held
+  pub answer : Answers words before status out err after.input.held after.output.calls
   pub out_gained : Appends before.output.held after.output.held out
   pub err_gained : Appends before.error_output.held after.error_output.held err
   pub quiet : IsQuiet words before after
   pub told : CountStays before.error_output after.error_output
+  pub piece : after.error_output.calls ≡ one_piece err before.error_output.calls
   pub silent : err ≡ [] → after.error_output ≡ before.error_output
 
 -- ---- a call that is broken off
@@ -214,7 +218,7 @@ pub record SessionFailed (words : List (List ℕ)) (before after : Outside) (tol
 -- and not all, and then the line of the fault is tried.
 pub record TellingFailed (words : List (List ℕ)) (before after : Outside) (out err : List ℕ) : Type 0 where
   pub status : Status
-  pub answer : Answers words before status out err after.input.held
+  pub answer : Answers words before status out err after.input.held after.output.calls
   pub fails : BreaksIn fault.Write err before.error_output after.error_output
   pub quiet : IsQuiet words before after
 
@@ -234,8 +238,8 @@ pub record WriteFailed (words : List (List ℕ)) (before after : Outside) : Type
 -- line of the fault is tried.
 pub data MemoryCause (words : List (List ℕ)) (before after : Outside) : (out : List ℕ) → Type 0 where
   at_work : (out : List ℕ) → UpToAny words before out → TriesLine (fault_line fault.NoMemory) before.error_output after.error_output → MemoryCause words before after out
-  untold : (status : Status) (out err : List ℕ) → Answers words before status out err after.input.held → TriesLine (fault_line fault.NoMemory) before.error_output after.error_output → MemoryCause words before after out
-  at_end : (status : Status) (out err : List ℕ) → Answers words before status out err after.input.held → BreaksIn fault.NoMemory err before.error_output after.error_output → MemoryCause words before after out
+  untold : (status : Status) (out err : List ℕ) → Answers words before status out err after.input.held after.output.calls → TriesLine (fault_line fault.NoMemory) before.error_output after.error_output → MemoryCause words before after out
+  at_end : (status : Status) (out err : List ℕ) → Answers words before status out err after.input.held after.output.calls → BreaksIn fault.NoMemory err before.error_output after.error_output → MemoryCause words before after out
 
 -- memory was refused, and nothing failed before; the files may not have been asked for yet
 pub record MemoryFailed (words : List (List ℕ)) (before after : Outside) : Type 0 where

@@ -1,5 +1,7 @@
 -- Laws over the headline and the definitions under it.
 use Rattle.std.specs.Prelude.{◌≡◌, ◌<◌, ◌≤◌, ◌^◌, ◌↔◌, ◌⊎◌, ℕ, Bool, true, List, [], ◌∷◌, ◌++◌, length, if◌then◌else◌, Option, Some}
+use Rattle.setl_io.specs.Faults.{more}
+use Rattle.setl_machine.specs.Prints.{prints}
 use Rattle.setl_model.specs.Ending.{Ending}
 use Rattle.setl_model_runs.specs.Events.{End, Stopped, Stuck, Unfit}
 use Rattle.setl_model_runs.specs.Variable.{Variable}
@@ -86,8 +88,8 @@ FaultyWordsReadNothing = (words : List (List ℕ)) (before after : Outside) → 
 
 -- exactly they end so
 abbrev pub WordsExactly : Type 0
-WordsExactly = (words : List (List ℕ)) (before : Outside) (status : Status) (out err : List ℕ) (left : Option (List ℕ)) →
-    Answers words before status out err left → (status ≡ ended.Words) ↔ IsNoRequest words before.watchers
+WordsExactly = (words : List (List ℕ)) (before : Outside) (status : Status) (out err : List ℕ) (left : Option (List ℕ)) (pieces : Option ℕ) →
+    Answers words before status out err left pieces → (status ≡ ended.Words) ↔ IsNoRequest words before.watchers
 
 -- the texts are told
 abbrev pub TellsTexts : Outside → (List ℕ → Option (List ℕ)) → Type 0
@@ -107,21 +109,21 @@ pub record AsksOf (words : List (List ℕ)) (before : Outside) (asks : List ℕ 
 
 -- a source that is refused is answered by its line, and nothing is written
 abbrev pub RefusesExactly : Type 0
-RefusesExactly = (words : List (List ℕ)) (before : Outside) (name source line : List ℕ) (status : Status) (out err : List ℕ) (left : Option (List ℕ)) →
-    (asked : IsToLoad words before name) → TellsRefusal asked.command → TellsText before name source → Refusal source line → Answers words before status out err left →
+RefusesExactly = (words : List (List ℕ)) (before : Outside) (name source line : List ℕ) (status : Status) (out err : List ℕ) (left : Option (List ℕ)) (pieces : Option ℕ) →
+    (asked : IsToLoad words before name) → TellsRefusal asked.command → TellsText before name source → Refusal source line → Answers words before status out err left pieces →
     (status ≡ Refused) × (out ≡ []) × (err ≡ line ++ 10 ∷ []) × (left ≡ before.input.held)
 
 -- a check is done exactly where the source is a program, and then nothing is told
 abbrev pub ChecksExactly : Type 0
-ChecksExactly = (words : List (List ℕ)) (before : Outside) (source : List ℕ) (status : Status) (out err : List ℕ) (left : Option (List ℕ)) →
-    AsksOf words before Check source → Answers words before status out err left →
+ChecksExactly = (words : List (List ℕ)) (before : Outside) (source : List ℕ) (status : Status) (out err : List ℕ) (left : Option (List ℕ)) (pieces : Option ℕ) →
+    AsksOf words before Check source → Answers words before status out err left pieces →
     ((status ≡ ended.Done) ↔ ((tree : Tree) × IsProgram source tree)) × (out ≡ []) × (status ≡ ended.Done → err ≡ []) × (left ≡ before.input.held)
 
 -- A listing is done exactly where the source is a program, and what is written is the listing
 -- of that program; otherwise it is refused and writes nothing.
 abbrev pub ListsExactly : Type 0
-ListsExactly = (words : List (List ℕ)) (before : Outside) (source : List ℕ) (status : Status) (out err : List ℕ) (left : Option (List ℕ)) →
-    AsksOf words before Code source → Answers words before status out err left →
+ListsExactly = (words : List (List ℕ)) (before : Outside) (source : List ℕ) (status : Status) (out err : List ℕ) (left : Option (List ℕ)) (pieces : Option ℕ) →
+    AsksOf words before Code source → Answers words before status out err left pieces →
     ((status ≡ ended.Done) ↔ ((tree : Tree) × IsProgram source tree))
     × ((tree : Tree) → IsProgram source tree → IsListing tree out × (err ≡ []))
     × ((status ≡ ended.Done) ⊎ ((status ≡ ended.Refused) × (out ≡ []))) × (left ≡ before.input.held)
@@ -132,8 +134,8 @@ OneListing = (tree : Tree) → (text : List ℕ) × IsListing tree text × ((oth
 
 -- Bytes that are no code file are refused by the line of their flaw, and write nothing.
 abbrev pub RefusesCodeExactly : Type 0
-RefusesCodeExactly = (words : List (List ℕ)) (before : Outside) (options : Options) (bytes line : List ℕ) (status : Status) (out err : List ℕ) (left : Option (List ℕ)) →
-    AsksOf words before (Run CodeFile options) bytes → IsThere options.watch before.watchers → CodeRefusal bytes line → Answers words before status out err left →
+RefusesCodeExactly = (words : List (List ℕ)) (before : Outside) (options : Options) (bytes line : List ℕ) (status : Status) (out err : List ℕ) (left : Option (List ℕ)) (pieces : Option ℕ) →
+    AsksOf words before (Run CodeFile options) bytes → IsThere options.watch before.watchers → CodeRefusal bytes line → Answers words before status out err left pieces →
     (status ≡ Refused) × (out ≡ []) × (err ≡ line ++ 10 ∷ []) × (left ≡ before.input.held)
 
 -- Numbers of 32 bits are enough for the bodies, steps, slots and declared variables of the code of each program, also where
@@ -146,8 +148,8 @@ CodeIsFew = (source : List ℕ) (tree : Tree) → IsProgram source tree →
 -- A code file is built only where the source is a program, and what is written is then a code file of that program, unless
 -- its spelling is too long, which is refused; any other source is refused and writes nothing.
 abbrev pub BuildsExactly : Type 0
-BuildsExactly = (words : List (List ℕ)) (before : Outside) (source : List ℕ) (status : Status) (out err : List ℕ) (left : Option (List ℕ)) →
-    AsksOf words before Build source → Answers words before status out err left →
+BuildsExactly = (words : List (List ℕ)) (before : Outside) (source : List ℕ) (status : Status) (out err : List ℕ) (left : Option (List ℕ)) (pieces : Option ℕ) →
+    AsksOf words before Build source → Answers words before status out err left pieces →
     (status ≡ ended.Done → (tree : Tree) × IsProgram source tree)
     × ((tree : Tree) → IsProgram source tree → ((status ≡ ended.Done) × IsBuilt tree out × (err ≡ [])) ⊎ ((status ≡ Refused) × (out ≡ []) × IsLongCode tree × (err ≡ flaw_line TooLong ++ 10 ∷ [])))
     × ((status ≡ ended.Done) ⊎ ((status ≡ Refused) × (out ≡ []))) × (left ≡ before.input.held)
@@ -161,8 +163,8 @@ CodeFilesRunAlike = (source bytes : List ℕ) (tree : Tree) (i : Image) → IsPr
 -- Advice is done exactly where the source is a program without declarations, and what is written is then advice for it; a
 -- program with declarations is refused by the line of the first of them.
 abbrev pub AdvisesExactly : Type 0
-AdvisesExactly = (words : List (List ℕ)) (before : Outside) (source : List ℕ) (status : Status) (out err : List ℕ) (left : Option (List ℕ)) →
-    AsksOf words before Advise source → Answers words before status out err left →
+AdvisesExactly = (words : List (List ℕ)) (before : Outside) (source : List ℕ) (status : Status) (out err : List ℕ) (left : Option (List ℕ)) (pieces : Option ℕ) →
+    AsksOf words before Advise source → Answers words before status out err left pieces →
     ((status ≡ ended.Done) ↔ ((tree : Tree) × IsProgram source tree × (tree.modes ≡ [])))
     × ((tree : Tree) → IsProgram source tree → tree.modes ≡ [] → IsAdvised source tree out × (err ≡ []))
     × ((tree : Tree) (line : List ℕ) → IsProgram source tree → HasRepr tree line → (status ≡ Refused) × (out ≡ []) × (err ≡ line ++ 10 ∷ []))
@@ -180,8 +182,8 @@ AdvisedSourcesFit = (source : List ℕ) (tree : Tree) (text : List ℕ) → (a :
 -- An explanation is done exactly where the source is a program, and then writes nothing; otherwise the source is refused, and
 -- what is written is the explanation of its reason. Nothing is told on the error output.
 abbrev pub ExplainsExactly : Type 0
-ExplainsExactly = (words : List (List ℕ)) (before : Outside) (source : List ℕ) (status : Status) (out err : List ℕ) (left : Option (List ℕ)) →
-    AsksOf words before Explain source → Answers words before status out err left →
+ExplainsExactly = (words : List (List ℕ)) (before : Outside) (source : List ℕ) (status : Status) (out err : List ℕ) (left : Option (List ℕ)) (pieces : Option ℕ) →
+    AsksOf words before Explain source → Answers words before status out err left pieces →
     ((tree : Tree) → IsProgram source tree → (status ≡ ended.Done) × (out ≡ []))
     × ((reason : Reason) → IsRefusedFor source reason → (status ≡ Refused) × IsExplained source reason out)
     × (err ≡ []) × (left ≡ before.input.held)
@@ -189,8 +191,8 @@ ExplainsExactly = (words : List (List ℕ)) (before : Outside) (source : List �
 -- A session over a program is done exactly where the input is a script, and what is written is then what its commands tell; other
 -- input is refused by its one line, and nothing is written.
 abbrev pub DebugsExactly : Type 0
-DebugsExactly = (words : List (List ℕ)) (before : Outside) (input : List ℕ) (based : Bool) (source : List ℕ) (tree : Tree) (status : Status) (out err : List ℕ) (left : Option (List ℕ)) →
-    AsksOf words before (Debug based) source → before.input.held ≡ Some input → IsProgram source tree → Answers words before status out err left →
+DebugsExactly = (words : List (List ℕ)) (before : Outside) (input : List ℕ) (based : Bool) (source : List ℕ) (tree : Tree) (status : Status) (out err : List ℕ) (left : Option (List ℕ)) (pieces : Option ℕ) →
+    AsksOf words before (Debug based) source → before.input.held ≡ Some input → IsProgram source tree → Answers words before status out err left pieces →
     ((status ≡ ended.Done) ↔ ((script : List ScriptCommand) × IsScript input script))
     × (status ≡ ended.Done → (script : List ScriptCommand) × IsScript input script × IsTold (record { program = program_of tree; based = based; script = script }) script out × (err ≡ []))
     × ((line : List ℕ) → ScriptRefusal input line → (status ≡ Refused) × (out ≡ []) × (err ≡ line ++ 10 ∷ []))
@@ -202,16 +204,17 @@ TrialsReadNothing = (words : List (List ℕ)) (before after : Outside) (seed nod
 
 -- A trial ends as the run of its program with its declarations, and writes its line where that is done.
 abbrev pub TriesExactly : Type 0
-TriesExactly = (words : List (List ℕ)) (before : Outside) (line : List ℕ) (end : End) (status : Status) (out err : List ℕ) (left : Option (List ℕ)) →
-    IsTried words line end → Answers words before status out err left →
+TriesExactly = (words : List (List ℕ)) (before : Outside) (line : List ℕ) (end : End) (status : Status) (out err : List ℕ) (left : Option (List ℕ)) (pieces : Option ℕ) →
+    IsTried words line end → Answers words before status out err left pieces →
     (status_of end ≡ Some status) × (out ≡ trial_output end line) × (err ≡ error_line end) × (left ≡ before.input.held)
 
--- a run of which texts and input are told is answered as it ends
+-- a run of which texts and input are told is answered as it ends, and each print is one write
 abbrev pub EndsExactly : Type 0
-EndsExactly = (words : List (List ℕ)) (before : Outside) (input : List ℕ) (job : Job) (said : List ℕ) (end : End) (status : Status) (out err : List ℕ) (left : Option (List ℕ)) →
+EndsExactly = (words : List (List ℕ)) (before : Outside) (input : List ℕ) (job : Job) (said : List ℕ) (end : End) (status : Status) (out err : List ℕ) (left : Option (List ℕ)) (pieces : Option ℕ) →
     ((texts : List ℕ → Option (List ℕ)) × TellsTexts before texts) → before.input.held ≡ Some input →
-    IsToRun words before job → (means : Meant job.runnable job.input job.turns job.based said end) → Answers words before status out err left →
+    IsToRun words before job → (means : Meant job.runnable job.input job.turns job.based said end) → Answers words before status out err left pieces →
     (status_of end ≡ Some status) × (out ≡ said) × (err ≡ (if job.dump then means.dump else []) ++ reports_of job.watchers means.events ++ error_line end)
+    × (pieces ≡ more (prints means.events) before.output.calls)
 
 -- every run of an accepted program ends, for every input and bound on turns, whether declarations count or not
 abbrev pub AcceptedRunsEnd : Type 0

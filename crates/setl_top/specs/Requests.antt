@@ -1,6 +1,7 @@
 -- What the words of a call ask for, where the outside is so before it.
 use Rattle.std.specs.Prelude.{◌≡◌, ◌-◌, ◌^◌, ℕ, Bool, true, List, take, Option, None, Some, ⊤}
 use Rattle.setl_io.specs.Files.{IsText}
+use Rattle.setl_io.specs.Source.{AreBytes}
 use Rattle.setl_model_runs.specs.Events.{End}
 use Rattle.setl_model.specs.Means.{Means}
 use Rattle.setl_program.specs.Program.{Program}
@@ -38,9 +39,9 @@ pub record Job : Type 0 where
   pub dump : Bool
   pub watchers : List Watch
 
--- where the bytes left of an input are told, they are these
+-- where the bytes left of an input are told, they are these, and otherwise they are bytes
 abbrev pub IsInput : Option (List ℕ) → List ℕ → Type 0
-IsInput None bytes = ⊤
+IsInput None bytes = AreBytes bytes
 IsInput (Some left) bytes = left ≡ bytes
 
 -- the words ask for this to be run

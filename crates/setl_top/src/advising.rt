@@ -32,7 +32,7 @@ fn write_advice<O: Sink, E: Sink>(
 ) -> Status
     requires program { IsProgram source.now tree.now }
     requires bare { tree.now.modes ≡ [] }
-    ensures { WritesAdvice source.now tree.now (seen O.held O.calls O.faults out.old) (seen O.held O.calls O.faults out.new) (seen E.held E.calls E.faults err.old) (seen E.held E.calls E.faults err.new) result }
+    ensures { WritesAdvice source.now tree.now (seen O.held O.pieces O.faults out.old) (seen O.held O.pieces O.faults out.new) (seen E.held E.pieces E.faults err.old) (seen E.held E.pieces E.faults err.new) result }
 {
     let Ok(text) = advised(alloc, source, tree) else {
         return break_off(err, Fault::NoMemory);
@@ -56,7 +56,7 @@ fn advise_program<O: Sink, E: Sink>(
     err: &mut E,
 ) -> Status
     requires { IsProgram source.now tree.now }
-    ensures { AdvisesText source.now (seen O.held O.calls O.faults out.old) (seen O.held O.calls O.faults out.new) (seen E.held E.calls E.faults err.old) (seen E.held E.calls E.faults err.new) result }
+    ensures { AdvisesText source.now (seen O.held O.pieces O.faults out.old) (seen O.held O.pieces O.faults out.new) (seen E.held E.pieces E.faults err.old) (seen E.held E.pieces E.faults err.new) result }
 {
     match first_declaration(tree) {
         Some(line) => tell_made(err, has_repr(alloc, line), Status::Refused),
@@ -67,7 +67,7 @@ fn advise_program<O: Sink, E: Sink>(
 /// Advises declarations for a source: done where it is a program that has none. Otherwise the last line was told.
 fn advise_text<O: Sink, E: Sink>(alloc: Global, source: &[u8], out: &mut O, err: &mut E) -> Status
     requires { length source.now ≤ 2 ^ 24 }
-    ensures { AdvisesText source.now (seen O.held O.calls O.faults out.old) (seen O.held O.calls O.faults out.new) (seen E.held E.calls E.faults err.old) (seen E.held E.calls E.faults err.new) result }
+    ensures { AdvisesText source.now (seen O.held O.pieces O.faults out.old) (seen O.held O.pieces O.faults out.new) (seen E.held E.pieces E.faults err.old) (seen E.held E.pieces E.faults err.new) result }
 {
     match read_program(alloc, source) {
         Ok(checked) => advise_program(alloc, source, &checked.tree, out, err),
@@ -84,7 +84,7 @@ pub fn advise_file<F: Files, O: Sink, E: Sink>(
     out: &mut O,
     err: &mut E,
 ) -> Status
-    ensures { Advises name.now (seen_files F.texts F.asked F.faults files.old) (seen_files F.texts F.asked F.faults files.new) (seen O.held O.calls O.faults out.old) (seen O.held O.calls O.faults out.new) (seen E.held E.calls E.faults err.old) (seen E.held E.calls E.faults err.new) result }
+    ensures { Advises name.now (seen_files F.texts F.asked F.faults files.old) (seen_files F.texts F.asked F.faults files.new) (seen O.held O.pieces O.faults out.old) (seen O.held O.pieces O.faults out.new) (seen E.held E.pieces E.faults err.old) (seen E.held E.pieces E.faults err.new) result }
 {
     match load_source(alloc, name, files, err) {
         Ok(source) => advise_text(alloc, &source, out, err),

@@ -40,7 +40,7 @@ fn write_code_file<O: Sink, E: Sink>(
 ) -> Status
     requires modes { AreModes source.tree source.modes }
     requires accepted { IsAccepted source.tree }
-    ensures { WritesCode source.tree (seen O.held O.calls O.faults out.old) (seen O.held O.calls O.faults out.new) (seen E.held E.calls E.faults err.old) (seen E.held E.calls E.faults err.new) result }
+    ensures { WritesCode source.tree (seen O.held O.pieces O.faults out.old) (seen O.held O.pieces O.faults out.new) (seen E.held E.pieces E.faults err.old) (seen E.held E.pieces E.faults err.new) result }
 {
     match built(alloc, source) {
         Ok(Some(bytes)) => write_text(&bytes, out, err),
@@ -58,7 +58,7 @@ pub fn build_file<F: Files, O: Sink, E: Sink>(
     out: &mut O,
     err: &mut E,
 ) -> Status
-    ensures { Builds name.now (seen_files F.texts F.asked F.faults files.old) (seen_files F.texts F.asked F.faults files.new) (seen O.held O.calls O.faults out.old) (seen O.held O.calls O.faults out.new) (seen E.held E.calls E.faults err.old) (seen E.held E.calls E.faults err.new) result }
+    ensures { Builds name.now (seen_files F.texts F.asked F.faults files.old) (seen_files F.texts F.asked F.faults files.new) (seen O.held O.pieces O.faults out.old) (seen O.held O.pieces O.faults out.new) (seen E.held E.pieces E.faults err.old) (seen E.held E.pieces E.faults err.new) result }
 {
     let source = match load_program(alloc, name, files, err) {
         Ok(source) => source,

@@ -54,7 +54,7 @@ fn follow_source<O: Sink, E: Sink>(
 ) -> Status
     requires modes { AreModes source.tree source.modes }
     requires accepted { IsAccepted source.tree }
-    ensures { FollowsScript (session_of source.tree based script.now) (seen O.held O.calls O.faults out.old) (seen O.held O.calls O.faults out.new) (seen E.held E.calls E.faults err.old) (seen E.held E.calls E.faults err.new) result }
+    ensures { FollowsScript (session_of source.tree based script.now) (seen O.held O.pieces O.faults out.old) (seen O.held O.pieces O.faults out.new) (seen E.held E.pieces E.faults err.old) (seen E.held E.pieces E.faults err.new) result }
 {
     setl_program_laws::accepted_is_formed();
     setl_code_may_run::code_may_run();
@@ -87,7 +87,7 @@ pub fn debug_file<F: Files, I: Source, O: Sink, E: Sink>(
     out: &mut O,
     err: &mut E,
 ) -> Status
-    ensures { Debugs based name.now (seen_files F.texts F.asked F.faults files.old) (seen_files F.texts F.asked F.faults files.new) (seen I.left I.calls I.faults input.old) (seen I.left I.calls I.faults input.new) (seen O.held O.calls O.faults out.old) (seen O.held O.calls O.faults out.new) (seen E.held E.calls E.faults err.old) (seen E.held E.calls E.faults err.new) result }
+    ensures { Debugs based name.now (seen_files F.texts F.asked F.faults files.old) (seen_files F.texts F.asked F.faults files.new) (seen I.left I.calls I.faults input.old) (seen I.left I.calls I.faults input.new) (seen O.held O.pieces O.faults out.old) (seen O.held O.pieces O.faults out.new) (seen E.held E.pieces E.faults err.old) (seen E.held E.pieces E.faults err.new) result }
 {
     let source = match load_program(alloc, name, files, err) {
         Ok(source) => source,

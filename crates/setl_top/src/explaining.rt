@@ -45,7 +45,7 @@ fn write_explanation<O: Sink, E: Sink>(
     err: &mut E,
 ) -> Status
     requires { length source.now ≤ 2 ^ 24 }
-    ensures { WritesExplanation source.now reason (seen O.held O.calls O.faults out.old) (seen O.held O.calls O.faults out.new) (seen E.held E.calls E.faults err.old) (seen E.held E.calls E.faults err.new) result }
+    ensures { WritesExplanation source.now reason (seen O.held O.pieces O.faults out.old) (seen O.held O.pieces O.faults out.new) (seen E.held E.pieces E.faults err.old) (seen E.held E.pieces E.faults err.new) result }
 {
     let Ok(text) = explained(alloc, source, reason) else {
         return break_off(err, Fault::NoMemory);
@@ -57,7 +57,7 @@ fn write_explanation<O: Sink, E: Sink>(
 /// was tried.
 fn explain_text<O: Sink, E: Sink>(alloc: Global, source: &[u8], out: &mut O, err: &mut E) -> Status
     requires { length source.now ≤ 2 ^ 24 }
-    ensures { ExplainsText source.now (seen O.held O.calls O.faults out.old) (seen O.held O.calls O.faults out.new) (seen E.held E.calls E.faults err.old) (seen E.held E.calls E.faults err.new) result }
+    ensures { ExplainsText source.now (seen O.held O.pieces O.faults out.old) (seen O.held O.pieces O.faults out.new) (seen E.held E.pieces E.faults err.old) (seen E.held E.pieces E.faults err.new) result }
 {
     match read_program(alloc, source) {
         Ok(_program) => Status::Done,
@@ -75,7 +75,7 @@ pub fn explain_file<F: Files, O: Sink, E: Sink>(
     out: &mut O,
     err: &mut E,
 ) -> Status
-    ensures { Explains name.now (seen_files F.texts F.asked F.faults files.old) (seen_files F.texts F.asked F.faults files.new) (seen O.held O.calls O.faults out.old) (seen O.held O.calls O.faults out.new) (seen E.held E.calls E.faults err.old) (seen E.held E.calls E.faults err.new) result }
+    ensures { Explains name.now (seen_files F.texts F.asked F.faults files.old) (seen_files F.texts F.asked F.faults files.new) (seen O.held O.pieces O.faults out.old) (seen O.held O.pieces O.faults out.new) (seen E.held E.pieces E.faults err.old) (seen E.held E.pieces E.faults err.new) result }
 {
     match load_text(alloc, name, 1 << 24, files, err) {
         Ok(Some(source)) => explain_text(alloc, &source, out, err),
@@ -86,7 +86,7 @@ pub fn explain_file<F: Files, O: Sink, E: Sink>(
 
 /// Tells what a stop means. Where that fails, the fault's line was tried.
 pub fn tell_stop<O: Sink, E: Sink>(stop: Stop, out: &mut O, err: &mut E) -> Status
-    ensures { Written (stop_text stop) (seen O.held O.calls O.faults out.old) (seen O.held O.calls O.faults out.new) (seen E.held E.calls E.faults err.old) (seen E.held E.calls E.faults err.new) result }
+    ensures { Written (stop_text stop) (seen O.held O.pieces O.faults out.old) (seen O.held O.pieces O.faults out.new) (seen E.held E.pieces E.faults err.old) (seen E.held E.pieces E.faults err.new) result }
 {
     write_text(stop_text(stop), out, err)
 }

@@ -35,7 +35,7 @@ fn write_listing<O: Sink, E: Sink>(
 ) -> Status
     requires modes { AreModes source.tree source.modes }
     requires accepted { IsAccepted source.tree }
-    ensures { WritesListing source.tree (seen O.held O.calls O.faults out.old) (seen O.held O.calls O.faults out.new) (seen E.held E.calls E.faults err.old) (seen E.held E.calls E.faults err.new) result }
+    ensures { WritesListing source.tree (seen O.held O.pieces O.faults out.old) (seen O.held O.pieces O.faults out.new) (seen E.held E.pieces E.faults err.old) (seen E.held E.pieces E.faults err.new) result }
 {
     setl_code_marked::each_code_has_one_marked_code();
     let Ok(text) = listed(alloc, source) else {
@@ -52,7 +52,7 @@ pub fn list_file<F: Files, O: Sink, E: Sink>(
     out: &mut O,
     err: &mut E,
 ) -> Status
-    ensures { Lists name.now (seen_files F.texts F.asked F.faults files.old) (seen_files F.texts F.asked F.faults files.new) (seen O.held O.calls O.faults out.old) (seen O.held O.calls O.faults out.new) (seen E.held E.calls E.faults err.old) (seen E.held E.calls E.faults err.new) result }
+    ensures { Lists name.now (seen_files F.texts F.asked F.faults files.old) (seen_files F.texts F.asked F.faults files.new) (seen O.held O.pieces O.faults out.old) (seen O.held O.pieces O.faults out.new) (seen E.held E.pieces E.faults err.old) (seen E.held E.pieces E.faults err.new) result }
 {
     let source = match load_program(alloc, name, files, err) {
         Ok(source) => source,

@@ -27,8 +27,8 @@ pub fn load_program<F: Files, E: Sink>(
 ) -> Result<Checked, Status>
     ensures loaded { IfOk result (λ checked. Loaded (F.texts files.old) name.now checked.tree) }
     ensures modes { IfOk result (λ checked. AreModes checked.tree checked.modes) }
-    ensures still { OnOk result (IsStill name.now (seen_files F.texts F.asked F.faults files.old) (seen_files F.texts F.asked F.faults files.new) (seen E.held E.calls E.faults err.old) (seen E.held E.calls E.faults err.new)) }
-    ensures not_loaded { IfErr result (NotLoaded name.now (seen_files F.texts F.asked F.faults files.old) (seen_files F.texts F.asked F.faults files.new) (seen E.held E.calls E.faults err.old) (seen E.held E.calls E.faults err.new)) }
+    ensures still { OnOk result (IsStill name.now (seen_files F.texts F.asked F.faults files.old) (seen_files F.texts F.asked F.faults files.new) (seen E.held E.pieces E.faults err.old) (seen E.held E.pieces E.faults err.new)) }
+    ensures not_loaded { IfErr result (NotLoaded name.now (seen_files F.texts F.asked F.faults files.old) (seen_files F.texts F.asked F.faults files.new) (seen E.held E.pieces E.faults err.old) (seen E.held E.pieces E.faults err.new)) }
 {
     let source = match load_source(alloc, name, files, err) {
         Ok(source) => source,
@@ -51,8 +51,8 @@ pub fn load_ready<F: Files, E: Sink>(
     err: &mut E,
 ) -> Result<Ready, Status>
     ensures ready { IfOk result (LoadedReady kind (F.texts files.old) name.now) }
-    ensures still { OnOk result (IsStill name.now (seen_files F.texts F.asked F.faults files.old) (seen_files F.texts F.asked F.faults files.new) (seen E.held E.calls E.faults err.old) (seen E.held E.calls E.faults err.new)) }
-    ensures not_ready { IfErr result (NotReady kind name.now (seen_files F.texts F.asked F.faults files.old) (seen_files F.texts F.asked F.faults files.new) (seen E.held E.calls E.faults err.old) (seen E.held E.calls E.faults err.new)) }
+    ensures still { OnOk result (IsStill name.now (seen_files F.texts F.asked F.faults files.old) (seen_files F.texts F.asked F.faults files.new) (seen E.held E.pieces E.faults err.old) (seen E.held E.pieces E.faults err.new)) }
+    ensures not_ready { IfErr result (NotReady kind name.now (seen_files F.texts F.asked F.faults files.old) (seen_files F.texts F.asked F.faults files.new) (seen E.held E.pieces E.faults err.old) (seen E.held E.pieces E.faults err.new)) }
 {
     match kind {
         FileKind::Source => ready_source(alloc, name, files, err),
@@ -68,8 +68,8 @@ fn ready_source<F: Files, E: Sink>(
     err: &mut E,
 ) -> Result<Ready, Status>
     ensures ready { IfOk result (LoadedReady FileKind.Source (F.texts files.old) name.now) }
-    ensures still { OnOk result (IsStill name.now (seen_files F.texts F.asked F.faults files.old) (seen_files F.texts F.asked F.faults files.new) (seen E.held E.calls E.faults err.old) (seen E.held E.calls E.faults err.new)) }
-    ensures not_ready { IfErr result (NotLoaded name.now (seen_files F.texts F.asked F.faults files.old) (seen_files F.texts F.asked F.faults files.new) (seen E.held E.calls E.faults err.old) (seen E.held E.calls E.faults err.new)) }
+    ensures still { OnOk result (IsStill name.now (seen_files F.texts F.asked F.faults files.old) (seen_files F.texts F.asked F.faults files.new) (seen E.held E.pieces E.faults err.old) (seen E.held E.pieces E.faults err.new)) }
+    ensures not_ready { IfErr result (NotLoaded name.now (seen_files F.texts F.asked F.faults files.old) (seen_files F.texts F.asked F.faults files.new) (seen E.held E.pieces E.faults err.old) (seen E.held E.pieces E.faults err.new)) }
 {
     let source = match load_program(alloc, name, files, err) {
         Ok(source) => source,
@@ -89,8 +89,8 @@ fn ready_code<F: Files, E: Sink>(
     err: &mut E,
 ) -> Result<Ready, Status>
     ensures ready { IfOk result (LoadedReady FileKind.CodeFile (F.texts files.old) name.now) }
-    ensures still { OnOk result (IsStill name.now (seen_files F.texts F.asked F.faults files.old) (seen_files F.texts F.asked F.faults files.new) (seen E.held E.calls E.faults err.old) (seen E.held E.calls E.faults err.new)) }
-    ensures not_ready { IfErr result (NotCode name.now (seen_files F.texts F.asked F.faults files.old) (seen_files F.texts F.asked F.faults files.new) (seen E.held E.calls E.faults err.old) (seen E.held E.calls E.faults err.new)) }
+    ensures still { OnOk result (IsStill name.now (seen_files F.texts F.asked F.faults files.old) (seen_files F.texts F.asked F.faults files.new) (seen E.held E.pieces E.faults err.old) (seen E.held E.pieces E.faults err.new)) }
+    ensures not_ready { IfErr result (NotCode name.now (seen_files F.texts F.asked F.faults files.old) (seen_files F.texts F.asked F.faults files.new) (seen E.held E.pieces E.faults err.old) (seen E.held E.pieces E.faults err.new)) }
 {
     let bytes = match load_text(alloc, name, MOST_BYTES, files, err) {
         Ok(Some(bytes)) => bytes,
@@ -110,7 +110,7 @@ fn ready_code<F: Files, E: Sink>(
 
 /// Tells why a code file is refused.
 fn refuse_code<E: Sink>(err: &mut E, flaw: Flaw) -> Status
-    ensures { Tells Status.Refused (flaw_line flaw ++ 10 ∷ []) (seen E.held E.calls E.faults err.old) (seen E.held E.calls E.faults err.new) result }
+    ensures { Tells Status.Refused (flaw_line flaw ++ 10 ∷ []) (seen E.held E.pieces E.faults err.old) (seen E.held E.pieces E.faults err.new) result }
 {
     tell(err, flaw_line(flaw), Status::Refused)
 }
@@ -122,7 +122,7 @@ pub fn check_file<F: Files, E: Sink>(
     files: &mut F,
     err: &mut E,
 ) -> Status
-    ensures { Checks name.now (seen_files F.texts F.asked F.faults files.old) (seen_files F.texts F.asked F.faults files.new) (seen E.held E.calls E.faults err.old) (seen E.held E.calls E.faults err.new) result }
+    ensures { Checks name.now (seen_files F.texts F.asked F.faults files.old) (seen_files F.texts F.asked F.faults files.new) (seen E.held E.pieces E.faults err.old) (seen E.held E.pieces E.faults err.new) result }
 {
     let _source = match load_program(alloc, name, files, err) {
         Ok(source) => source,

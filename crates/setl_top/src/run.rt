@@ -55,9 +55,9 @@ fn run_code<I: Source, O: Sink>(
     requires bare { IsBare (plain_code ready.now.code) }
     requires main { AreOfMain (map plain_declared declared.now) }
     requires turns { asked.turns < 2 ^ 63 }
-    ensures ran { IfOk result (DumpsCode (map (λ b. b.name) ready.now.bases) (plain_code ready.now.code) (map plain_declared declared.now) asked.turns (dumps (options_now asked)) (streams (seen I.left I.calls I.faults input.old) (seen O.held O.calls O.faults out.old) (watched (map (λ w. watch w) watchers.old.items) reports.old.items)) (streams (seen I.left I.calls I.faults input.new) (seen O.held O.calls O.faults out.new) (watched (map (λ w. watch w) watchers.new.items) reports.new.items))) }
+    ensures ran { IfOk result (DumpsCode (map (λ b. b.name) ready.now.bases) (plain_code ready.now.code) (map plain_declared declared.now) asked.turns (dumps (options_now asked)) (streams (seen I.left I.calls I.faults input.old) (seen O.held O.pieces O.faults out.old) (watched (map (λ w. watch w) watchers.old.items) reports.old.items)) (streams (seen I.left I.calls I.faults input.new) (seen O.held O.pieces O.faults out.new) (watched (map (λ w. watch w) watchers.new.items) reports.new.items))) }
     ensures input { OnErr result (seen I.left I.calls I.faults input.new ≡ seen I.left I.calls I.faults input.old) }
-    ensures out { OnErr result (seen O.held O.calls O.faults out.new ≡ seen O.held O.calls O.faults out.old) }
+    ensures out { OnErr result (seen O.held O.pieces O.faults out.new ≡ seen O.held O.pieces O.faults out.old) }
 {
     declared_variables_fit();
     runs_lay_out();
@@ -181,10 +181,10 @@ pub fn run_ready<I: Source, O: Sink>(
 ) -> Result<End, AllocError>
     requires is { (r : Runnable) × IsReady r ready.now }
     requires turns { asked.turns < 2 ^ 63 }
-    ensures ran { (r : Runnable) → IsReady r ready.now → IfOk result (Runs r (options_now asked) (streams (seen I.left I.calls I.faults input.old) (seen O.held O.calls O.faults out.old) (watched (map (λ w. watch w) watchers.old.items) reports.old.items)) (streams (seen I.left I.calls I.faults input.new) (seen O.held O.calls O.faults out.new) (watched (map (λ w. watch w) watchers.new.items) reports.new.items))) }
-    ensures input { (r : Runnable) → IsReady r ready.now → TakesInput r (options_now asked) (streams (seen I.left I.calls I.faults input.old) (seen O.held O.calls O.faults out.old) (watched (map (λ w. watch w) watchers.old.items) reports.old.items)) (streams (seen I.left I.calls I.faults input.new) (seen O.held O.calls O.faults out.new) (watched (map (λ w. watch w) watchers.new.items) reports.new.items)) }
+    ensures ran { (r : Runnable) → IsReady r ready.now → IfOk result (Runs r (options_now asked) (streams (seen I.left I.calls I.faults input.old) (seen O.held O.pieces O.faults out.old) (watched (map (λ w. watch w) watchers.old.items) reports.old.items)) (streams (seen I.left I.calls I.faults input.new) (seen O.held O.pieces O.faults out.new) (watched (map (λ w. watch w) watchers.new.items) reports.new.items))) }
+    ensures input { (r : Runnable) → IsReady r ready.now → TakesInput r (options_now asked) (streams (seen I.left I.calls I.faults input.old) (seen O.held O.pieces O.faults out.old) (watched (map (λ w. watch w) watchers.old.items) reports.old.items)) (streams (seen I.left I.calls I.faults input.new) (seen O.held O.pieces O.faults out.new) (watched (map (λ w. watch w) watchers.new.items) reports.new.items)) }
     ensures unread { OnErr result (seen I.left I.calls I.faults input.new ≡ seen I.left I.calls I.faults input.old) }
-    ensures out { OnErr result (seen O.held O.calls O.faults out.new ≡ seen O.held O.calls O.faults out.old) }
+    ensures out { OnErr result (seen O.held O.pieces O.faults out.new ≡ seen O.held O.pieces O.faults out.old) }
 {
     setl_program_laws::accepted_is_formed();
     setl_code_marked_simulation::marked_code_means_what_the_program_means();

@@ -35,7 +35,7 @@ pub fn tell_end<E: Sink>(
 ) -> Status
     requires paused { ¬ (end ≡ End.Paused) }
     requires stuck { ¬ (end ≡ End.Stuck) }
-    ensures told { TellsEnd (map plain_declared declared.now) (watched (map (λ w. watch w) watchers.now) reports.items) end (seen E.held E.calls E.faults err.old) (seen E.held E.calls E.faults err.new) result }
+    ensures told { TellsEnd (map plain_declared declared.now) (watched (map (λ w. watch w) watchers.now) reports.items) end (seen E.held E.pieces E.faults err.old) (seen E.held E.pieces E.faults err.new) result }
 {
     match end {
         End::Done => tell_made(err, all_told(watchers, reports, b""), Status::Done),
@@ -74,7 +74,7 @@ fn told_stop(
 
 /// Tells what is to be told of words that are of no plain form.
 pub fn tell_faulty<E: Sink>(alloc: Global, words: &[String], err: &mut E) -> Status
-    ensures told { (text : List ℕ) × TellsFaulty (map string_bytes words.now) text × Tells Status.Words text (seen E.held E.calls E.faults err.old) (seen E.held E.calls E.faults err.new) result }
+    ensures told { (text : List ℕ) × TellsFaulty (map string_bytes words.now) text × Tells Status.Words text (seen E.held E.pieces E.faults err.old) (seen E.held E.pieces E.faults err.new) result }
 {
     match fault_text(alloc, words) {
         Ok(text) => tell(err, text.as_bytes(), Status::Words),

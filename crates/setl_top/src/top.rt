@@ -54,21 +54,21 @@ use std::alloc::Global;
 /// program on it twice, each time with 2^63 - 1 turns: with its declarations, and without. `out` gains one line with what
 /// the run with declarations printed, where that is done, and otherwise nothing; the call ends as that run.
 ///
-/// For `run FILE` and `code FILE`, `out` gains what the program prints, each line at its `print`, or the listing of its
-/// code. Where a run ended as its program does, `err` gains first, with `--dump` and without `--unbased`, the dump of its last
-/// state: the members of the bases, and what the declared variables hold. It gains then the reports of the watchers, first of
-/// those that had enough, in the order in which they had, and then of the others in their order. It gains then the last line of a call
-/// that wasn't done, if it has one, or what is told of words that are of no such form. Bytes are taken off the front of
-/// `input` only by a session over an accepted program, and by a run that comes to a `read`, and `out` has then gained what
-/// the run had printed there. Where a `print` failed, `input` has what the run had left at it, but for bytes that were taken
-/// ahead. A check leaves `input` and `out` as they were, however it ends, a listing, a build, advice and an explanation leave
-/// `input` as it was, and a trial `files` and `input`.
+/// For `run FILE` and `code FILE`, `out` gains what the program prints, each line at its `print` as one write, or the
+/// listing of its code. Where a run ended as its program does, `err` gains first, with `--dump` and without `--unbased`, the
+/// dump of its last state: the members of the bases, and what the declared variables hold. It gains then the reports of the
+/// watchers, first of those that had enough, in the order in which they had, and then of the others in their order. It gains
+/// then the last line of a call that wasn't done, if it has one, or what is told of words that are of no such form. Bytes
+/// are taken off the front of `input` only by a session over an accepted program, and by a run that comes to a `read`, and
+/// `out` has then gained what the run had printed there. Where a `print` failed, `input` has what the run had left at it,
+/// but for bytes that were taken ahead. A check leaves `input` and `out` as they were, however it ends, a listing, a build,
+/// advice and an explanation leave `input` as it was, and a trial `files` and `input`.
 ///
 /// Where the words name a file, `files` are asked for it once, and for no other; where they name none, for none. `ReadFault`
 /// comes only where this load failed, or a read of `input` at a `read` or in a script, and `WriteFault` only where a write to
 /// `out` or `err` failed: one fault was counted then, and nothing is tried again. `NoMemory` is the answer to want of memory
 /// and to a count that passes the greatest number that it has room for; no clause says when it comes. After these the error
-/// line is tried once.
+/// line is tried once, as one piece.
 pub fn setl<F: Files, I: Source, O: Sink, E: Sink>(
     alloc: Global,
     words: &[String],
@@ -78,29 +78,29 @@ pub fn setl<F: Files, I: Source, O: Sink, E: Sink>(
     out: &mut O,
     err: &mut E,
 ) -> Status
-    ensures headline { let before = outside (map (λ w. watch w) watchers.items) (seen_files F.texts F.asked F.faults files.old) (seen I.left I.calls I.faults input.old) (seen O.held O.calls O.faults out.old) (seen E.held E.calls E.faults err.old) in
-        let after = outside (map (λ w. watch w) watchers.items) (seen_files F.texts F.asked F.faults files.new) (seen I.left I.calls I.faults input.new) (seen O.held O.calls O.faults out.new) (seen E.held E.calls E.faults err.new) in
+    ensures headline { let before = outside (map (λ w. watch w) watchers.items) (seen_files F.texts F.asked F.faults files.old) (seen I.left I.calls I.faults input.old) (seen O.held O.pieces O.faults out.old) (seen E.held E.pieces E.faults err.old) in
+        let after = outside (map (λ w. watch w) watchers.items) (seen_files F.texts F.asked F.faults files.new) (seen I.left I.calls I.faults input.new) (seen O.held O.pieces O.faults out.new) (seen E.held E.pieces E.faults err.new) in
         Headline (map string_bytes words.now) before after result }
-    ensures input { let before = outside (map (λ w. watch w) watchers.items) (seen_files F.texts F.asked F.faults files.old) (seen I.left I.calls I.faults input.old) (seen O.held O.calls O.faults out.old) (seen E.held E.calls E.faults err.old) in
-        let after = outside (map (λ w. watch w) watchers.items) (seen_files F.texts F.asked F.faults files.new) (seen I.left I.calls I.faults input.new) (seen O.held O.calls O.faults out.new) (seen E.held E.calls E.faults err.new) in
+    ensures input { let before = outside (map (λ w. watch w) watchers.items) (seen_files F.texts F.asked F.faults files.old) (seen I.left I.calls I.faults input.old) (seen O.held O.pieces O.faults out.old) (seen E.held E.pieces E.faults err.old) in
+        let after = outside (map (λ w. watch w) watchers.items) (seen_files F.texts F.asked F.faults files.new) (seen I.left I.calls I.faults input.new) (seen O.held O.pieces O.faults out.new) (seen E.held E.pieces E.faults err.new) in
         InputLeft (map string_bytes words.now) before after }
-    ensures rest { let before = outside (map (λ w. watch w) watchers.items) (seen_files F.texts F.asked F.faults files.old) (seen I.left I.calls I.faults input.old) (seen O.held O.calls O.faults out.old) (seen E.held E.calls E.faults err.old) in
-        let after = outside (map (λ w. watch w) watchers.items) (seen_files F.texts F.asked F.faults files.new) (seen I.left I.calls I.faults input.new) (seen O.held O.calls O.faults out.new) (seen E.held E.calls E.faults err.new) in
+    ensures rest { let before = outside (map (λ w. watch w) watchers.items) (seen_files F.texts F.asked F.faults files.old) (seen I.left I.calls I.faults input.old) (seen O.held O.pieces O.faults out.old) (seen E.held E.pieces E.faults err.old) in
+        let after = outside (map (λ w. watch w) watchers.items) (seen_files F.texts F.asked F.faults files.new) (seen I.left I.calls I.faults input.new) (seen O.held O.pieces O.faults out.new) (seen E.held E.pieces E.faults err.new) in
         CheckLeavesRest (map string_bytes words.now) before after }
-    ensures listing { let before = outside (map (λ w. watch w) watchers.items) (seen_files F.texts F.asked F.faults files.old) (seen I.left I.calls I.faults input.old) (seen O.held O.calls O.faults out.old) (seen E.held E.calls E.faults err.old) in
-        let after = outside (map (λ w. watch w) watchers.items) (seen_files F.texts F.asked F.faults files.new) (seen I.left I.calls I.faults input.new) (seen O.held O.calls O.faults out.new) (seen E.held E.calls E.faults err.new) in
+    ensures listing { let before = outside (map (λ w. watch w) watchers.items) (seen_files F.texts F.asked F.faults files.old) (seen I.left I.calls I.faults input.old) (seen O.held O.pieces O.faults out.old) (seen E.held E.pieces E.faults err.old) in
+        let after = outside (map (λ w. watch w) watchers.items) (seen_files F.texts F.asked F.faults files.new) (seen I.left I.calls I.faults input.new) (seen O.held O.pieces O.faults out.new) (seen E.held E.pieces E.faults err.new) in
         ListingLeavesInput (map string_bytes words.now) before after }
-    ensures build { let before = outside (map (λ w. watch w) watchers.items) (seen_files F.texts F.asked F.faults files.old) (seen I.left I.calls I.faults input.old) (seen O.held O.calls O.faults out.old) (seen E.held E.calls E.faults err.old) in
-        let after = outside (map (λ w. watch w) watchers.items) (seen_files F.texts F.asked F.faults files.new) (seen I.left I.calls I.faults input.new) (seen O.held O.calls O.faults out.new) (seen E.held E.calls E.faults err.new) in
+    ensures build { let before = outside (map (λ w. watch w) watchers.items) (seen_files F.texts F.asked F.faults files.old) (seen I.left I.calls I.faults input.old) (seen O.held O.pieces O.faults out.old) (seen E.held E.pieces E.faults err.old) in
+        let after = outside (map (λ w. watch w) watchers.items) (seen_files F.texts F.asked F.faults files.new) (seen I.left I.calls I.faults input.new) (seen O.held O.pieces O.faults out.new) (seen E.held E.pieces E.faults err.new) in
         BuildLeavesInput (map string_bytes words.now) before after }
-    ensures advice { let before = outside (map (λ w. watch w) watchers.items) (seen_files F.texts F.asked F.faults files.old) (seen I.left I.calls I.faults input.old) (seen O.held O.calls O.faults out.old) (seen E.held E.calls E.faults err.old) in
-        let after = outside (map (λ w. watch w) watchers.items) (seen_files F.texts F.asked F.faults files.new) (seen I.left I.calls I.faults input.new) (seen O.held O.calls O.faults out.new) (seen E.held E.calls E.faults err.new) in
+    ensures advice { let before = outside (map (λ w. watch w) watchers.items) (seen_files F.texts F.asked F.faults files.old) (seen I.left I.calls I.faults input.old) (seen O.held O.pieces O.faults out.old) (seen E.held E.pieces E.faults err.old) in
+        let after = outside (map (λ w. watch w) watchers.items) (seen_files F.texts F.asked F.faults files.new) (seen I.left I.calls I.faults input.new) (seen O.held O.pieces O.faults out.new) (seen E.held E.pieces E.faults err.new) in
         AdviceLeavesInput (map string_bytes words.now) before after }
-    ensures explanation { let before = outside (map (λ w. watch w) watchers.items) (seen_files F.texts F.asked F.faults files.old) (seen I.left I.calls I.faults input.old) (seen O.held O.calls O.faults out.old) (seen E.held E.calls E.faults err.old) in
-        let after = outside (map (λ w. watch w) watchers.items) (seen_files F.texts F.asked F.faults files.new) (seen I.left I.calls I.faults input.new) (seen O.held O.calls O.faults out.new) (seen E.held E.calls E.faults err.new) in
+    ensures explanation { let before = outside (map (λ w. watch w) watchers.items) (seen_files F.texts F.asked F.faults files.old) (seen I.left I.calls I.faults input.old) (seen O.held O.pieces O.faults out.old) (seen E.held E.pieces E.faults err.old) in
+        let after = outside (map (λ w. watch w) watchers.items) (seen_files F.texts F.asked F.faults files.new) (seen I.left I.calls I.faults input.new) (seen O.held O.pieces O.faults out.new) (seen E.held E.pieces E.faults err.new) in
         ExplanationLeavesInput (map string_bytes words.now) before after }
-    ensures trial { let before = outside (map (λ w. watch w) watchers.items) (seen_files F.texts F.asked F.faults files.old) (seen I.left I.calls I.faults input.old) (seen O.held O.calls O.faults out.old) (seen E.held E.calls E.faults err.old) in
-        let after = outside (map (λ w. watch w) watchers.items) (seen_files F.texts F.asked F.faults files.new) (seen I.left I.calls I.faults input.new) (seen O.held O.calls O.faults out.new) (seen E.held E.calls E.faults err.new) in
+    ensures trial { let before = outside (map (λ w. watch w) watchers.items) (seen_files F.texts F.asked F.faults files.old) (seen I.left I.calls I.faults input.old) (seen O.held O.pieces O.faults out.old) (seen E.held E.pieces E.faults err.old) in
+        let after = outside (map (λ w. watch w) watchers.items) (seen_files F.texts F.asked F.faults files.new) (seen I.left I.calls I.faults input.new) (seen O.held O.pieces O.faults out.new) (seen E.held E.pieces E.faults err.new) in
         TrialLeavesFilesAndInput (map string_bytes words.now) before after }
 {
     setl_top_words::one_command();
@@ -133,11 +133,11 @@ fn run_asked<F: Files, I: Source, O: Sink, E: Sink>(
     err: &mut E,
 ) -> Status
     requires { asked.turns < 2 ^ 63 }
-    ensures headline { let before = outside (map (λ w. watch w) watchers.items) (seen_files F.texts F.asked F.faults files.old) (seen I.left I.calls I.faults input.old) (seen O.held O.calls O.faults out.old) (seen E.held E.calls E.faults err.old) in
-        let after = outside (map (λ w. watch w) watchers.items) (seen_files F.texts F.asked F.faults files.new) (seen I.left I.calls I.faults input.new) (seen O.held O.calls O.faults out.new) (seen E.held E.calls E.faults err.new) in
+    ensures headline { let before = outside (map (λ w. watch w) watchers.items) (seen_files F.texts F.asked F.faults files.old) (seen I.left I.calls I.faults input.old) (seen O.held O.pieces O.faults out.old) (seen E.held E.pieces E.faults err.old) in
+        let after = outside (map (λ w. watch w) watchers.items) (seen_files F.texts F.asked F.faults files.new) (seen I.left I.calls I.faults input.new) (seen O.held O.pieces O.faults out.new) (seen E.held E.pieces E.faults err.new) in
         (words : List (List ℕ)) → Spells words (Run kind (options_now asked) name.now) → Headline words before after result }
-    ensures input { let before = outside (map (λ w. watch w) watchers.items) (seen_files F.texts F.asked F.faults files.old) (seen I.left I.calls I.faults input.old) (seen O.held O.calls O.faults out.old) (seen E.held E.calls E.faults err.old) in
-        let after = outside (map (λ w. watch w) watchers.items) (seen_files F.texts F.asked F.faults files.new) (seen I.left I.calls I.faults input.new) (seen O.held O.calls O.faults out.new) (seen E.held E.calls E.faults err.new) in
+    ensures input { let before = outside (map (λ w. watch w) watchers.items) (seen_files F.texts F.asked F.faults files.old) (seen I.left I.calls I.faults input.old) (seen O.held O.pieces O.faults out.old) (seen E.held E.pieces E.faults err.old) in
+        let after = outside (map (λ w. watch w) watchers.items) (seen_files F.texts F.asked F.faults files.new) (seen I.left I.calls I.faults input.new) (seen O.held O.pieces O.faults out.new) (seen E.held E.pieces E.faults err.new) in
         (words : List (List ℕ)) → Spells words (Run kind (options_now asked) name.now) → InputLeft words before after }
 {
     setl_top_words::one_command();
@@ -171,11 +171,11 @@ fn run_file<F: Files, I: Source, O: Sink, E: Sink>(
     err: &mut E,
 ) -> Status
     requires { asked.turns < 2 ^ 63 }
-    ensures headline { (words : List (List ℕ)) (handed : List Watch) → let before = outside handed (seen_files F.texts F.asked F.faults files.old) (seen I.left I.calls I.faults input.old) (seen O.held O.calls O.faults out.old) (seen E.held E.calls E.faults err.old) in
-        let after = outside handed (seen_files F.texts F.asked F.faults files.new) (seen I.left I.calls I.faults input.new) (seen O.held O.calls O.faults out.new) (seen E.held E.calls E.faults err.new) in
+    ensures headline { (words : List (List ℕ)) (handed : List Watch) → let before = outside handed (seen_files F.texts F.asked F.faults files.old) (seen I.left I.calls I.faults input.old) (seen O.held O.pieces O.faults out.old) (seen E.held E.pieces E.faults err.old) in
+        let after = outside handed (seen_files F.texts F.asked F.faults files.new) (seen I.left I.calls I.faults input.new) (seen O.held O.pieces O.faults out.new) (seen E.held E.pieces E.faults err.new) in
         Spells words (Run kind (options_now asked) name.now) → IsThere asked.watch handed → map (λ w. watch w) watchers.old.items ≡ asked_for asked.watch handed → Headline words before after result }
-    ensures input { (words : List (List ℕ)) (handed : List Watch) → let before = outside handed (seen_files F.texts F.asked F.faults files.old) (seen I.left I.calls I.faults input.old) (seen O.held O.calls O.faults out.old) (seen E.held E.calls E.faults err.old) in
-        let after = outside handed (seen_files F.texts F.asked F.faults files.new) (seen I.left I.calls I.faults input.new) (seen O.held O.calls O.faults out.new) (seen E.held E.calls E.faults err.new) in
+    ensures input { (words : List (List ℕ)) (handed : List Watch) → let before = outside handed (seen_files F.texts F.asked F.faults files.old) (seen I.left I.calls I.faults input.old) (seen O.held O.pieces O.faults out.old) (seen E.held E.pieces E.faults err.old) in
+        let after = outside handed (seen_files F.texts F.asked F.faults files.new) (seen I.left I.calls I.faults input.new) (seen O.held O.pieces O.faults out.new) (seen E.held E.pieces E.faults err.new) in
         Spells words (Run kind (options_now asked) name.now) → IsThere asked.watch handed → map (λ w. watch w) watchers.old.items ≡ asked_for asked.watch handed → InputLeft words before after }
 {
     let ready = match load_ready(alloc, kind, name, files, err) {

@@ -104,7 +104,7 @@ fn write_trial<O: Sink, E: Sink>(
     out: &mut O,
     err: &mut E,
 ) -> Status
-    ensures { Written (trial_line seed nodes printed.now) (seen O.held O.calls O.faults out.old) (seen O.held O.calls O.faults out.new) (seen E.held E.calls E.faults err.old) (seen E.held E.calls E.faults err.new) result }
+    ensures { Written (trial_line seed nodes printed.now) (seen O.held O.pieces O.faults out.old) (seen O.held O.pieces O.faults out.new) (seen E.held E.pieces E.faults err.old) (seen E.held E.pieces E.faults err.new) result }
 {
     let Ok(line) = trial_line(alloc, seed, nodes, printed) else {
         return break_off(err, Fault::NoMemory);
@@ -124,7 +124,7 @@ fn tell_trial<O: Sink, E: Sink>(
 ) -> Status
     requires trial { IsTrial ready.now }
     requires ran { (names : List (List ℕ)) (p : Program) → IsReady (OfProgram names p) ready.now → RunEnds p (trial_input seed nodes) true run.printed run.end }
-    ensures { Tries seed nodes (seen O.held O.calls O.faults out.old) (seen O.held O.calls O.faults out.new) (seen E.held E.calls E.faults err.old) (seen E.held E.calls E.faults err.new) result }
+    ensures { Tries seed nodes (seen O.held O.pieces O.faults out.old) (seen O.held O.pieces O.faults out.new) (seen E.held E.pieces E.faults err.old) (seen E.held E.pieces E.faults err.new) result }
 {
     if is_done(run.end) {
         return write_trial(alloc, seed, nodes, run.printed.held(), out, err);
@@ -145,7 +145,7 @@ fn try_program<O: Sink, E: Sink>(
     requires trial { IsTrial ready.now }
     requires some { 1 ≤ nodes }
     requires few { nodes ≤ 2000 }
-    ensures { Tries seed nodes (seen O.held O.calls O.faults out.old) (seen O.held O.calls O.faults out.new) (seen E.held E.calls E.faults err.old) (seen E.held E.calls E.faults err.new) result }
+    ensures { Tries seed nodes (seen O.held O.pieces O.faults out.old) (seen O.held O.pieces O.faults out.new) (seen E.held E.pieces E.faults err.old) (seen E.held E.pieces E.faults err.new) result }
 {
     match run_twice(alloc, ready, seed, nodes) {
         Ok(run) => tell_trial(alloc, ready, seed, nodes, run, out, err),
@@ -164,7 +164,7 @@ pub fn run_trial<O: Sink, E: Sink>(
 ) -> Status
     requires some { 1 ≤ nodes }
     requires few { nodes ≤ 2000 }
-    ensures { Tries seed nodes (seen O.held O.calls O.faults out.old) (seen O.held O.calls O.faults out.new) (seen E.held E.calls E.faults err.old) (seen E.held E.calls E.faults err.new) result }
+    ensures { Tries seed nodes (seen O.held O.pieces O.faults out.old) (seen O.held O.pieces O.faults out.new) (seen E.held E.pieces E.faults err.old) (seen E.held E.pieces E.faults err.new) result }
 {
     let source = match read_program(alloc, trial_source()) {
         Ok(source) => source,

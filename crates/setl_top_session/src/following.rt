@@ -53,7 +53,7 @@ fn follow_run<T: Target + Drop, O: Sink>(
     out: &mut O,
 ) -> Ended
     ensures ends { IfOk run (λ r. Ends (T.shows (T.run r)) script.now (O.held out.old) (O.held out.new) (O.faults out.old) (O.faults out.new) result) }
-    ensures none { OnErr run ((result ≡ ended.NoMemory) × (seen O.held O.calls O.faults out.new ≡ seen O.held O.calls O.faults out.old)) }
+    ensures none { OnErr run ((result ≡ ended.NoMemory) × (seen O.held O.pieces O.faults out.new ≡ seen O.held O.pieces O.faults out.old)) }
 {
     let Ok(mut run) = run else {
         return Ended::NoMemory;
@@ -79,7 +79,7 @@ pub fn follow<O: Sink, E: Sink>(
     requires main { AreOfMain (plain_program program.now).modes }
     requires formed { Formed (plain_program program.now) }
     requires code { plain_code code.now ≡ code_of (plain_program program.now) }
-    ensures { FollowsScript (record { program = plain_program program.now; based = based; script = script.now }) (seen O.held O.calls O.faults out.old) (seen O.held O.calls O.faults out.new) (seen E.held E.calls E.faults err.old) (seen E.held E.calls E.faults err.new) result }
+    ensures { FollowsScript (record { program = plain_program program.now; based = based; script = script.now }) (seen O.held O.pieces O.faults out.old) (seen O.held O.pieces O.faults out.new) (seen E.held E.pieces E.faults err.old) (seen E.held E.pieces E.faults err.new) result }
 {
     let run = run_on_script(alloc, program, code, based, bases, script);
     match follow_run(alloc, script, run, out) {

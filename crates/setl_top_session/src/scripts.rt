@@ -27,8 +27,8 @@ fn faulty_line(alloc: Global, n: u32) -> Result<Vec<u8>, AllocError>
 fn spelled<E: Sink>(alloc: Global, bytes: &[u8], err: &mut E) -> Result<Script, Status>
     requires { length bytes.now ≤ 2 ^ 20 }
     ensures script { IfOk result (IsScript bytes.now) }
-    ensures still { OnOk result (seen E.held E.calls E.faults err.new ≡ seen E.held E.calls E.faults err.old) }
-    ensures none { IfErr result (NotSpelled bytes.now (seen E.held E.calls E.faults err.old) (seen E.held E.calls E.faults err.new)) }
+    ensures still { OnOk result (seen E.held E.pieces E.faults err.new ≡ seen E.held E.pieces E.faults err.old) }
+    ensures none { IfErr result (NotSpelled bytes.now (seen E.held E.pieces E.faults err.old) (seen E.held E.pieces E.faults err.new)) }
 {
     match read_script(alloc, bytes) {
         Ok(script) => Ok(script),
@@ -47,8 +47,8 @@ pub fn load_script<I: Source, E: Sink>(
     err: &mut E,
 ) -> Result<Script, Status>
     ensures script { IfOk result (TookScript (seen I.left I.calls I.faults input.old) (seen I.left I.calls I.faults input.new)) }
-    ensures still { OnOk result (seen E.held E.calls E.faults err.new ≡ seen E.held E.calls E.faults err.old) }
-    ensures none { IfErr result (NoScript (seen I.left I.calls I.faults input.old) (seen I.left I.calls I.faults input.new) (seen E.held E.calls E.faults err.old) (seen E.held E.calls E.faults err.new)) }
+    ensures still { OnOk result (seen E.held E.pieces E.faults err.new ≡ seen E.held E.pieces E.faults err.old) }
+    ensures none { IfErr result (NoScript (seen I.left I.calls I.faults input.old) (seen I.left I.calls I.faults input.new) (seen E.held E.pieces E.faults err.old) (seen E.held E.pieces E.faults err.new)) }
 {
     match read_whole(alloc, input, MOST_BYTES) {
         Whole::Bytes(bytes) => spelled(alloc, &bytes, err),

@@ -1,12 +1,13 @@
 -- What is seen of the objects of the outside at one moment.
-use Rattle.std.specs.Prelude.{◌≡◌, ◌⊎◌, ℕ, List, ◌∷◌, Option}
+use Rattle.std.specs.Prelude.{◌≡◌, ◌⊎◌, ℕ, List, [], ◌∷◌, Option}
 use Rattle.std.specs.Option.{option_map}
 use Rattle.setl_io.specs.Faults.{Rose, one_more}
 use Rattle.setl_io.specs.Files.{Texts, Names}
 
 -- ---- streams
 
--- what it holds and how many calls there were, where it tells that, and its count of faults
+-- what it holds, and how many calls of an input there were or how many pieces an output was handed, where it tells that; and its
+-- count of faults
 pub record Seen (A : Type 0) : Type 0 where
   pub held : Option A
   pub calls : Option ℕ
@@ -23,6 +24,11 @@ CountRose before after = Rose before.faults after.faults
 -- its count of faults is as before
 abbrev pub CountStays : {A : Type 0} → (before after : Seen A) → Type 0
 CountStays before after = after.faults ≡ before.faults
+
+-- a count of pieces after this text was handed over as one, and not at all where it is empty
+abbrev pub one_piece : List ℕ → Option ℕ → Option ℕ
+one_piece [] count = count
+one_piece (byte ∷ text) count = option_map one_more count
 
 -- ---- files
 

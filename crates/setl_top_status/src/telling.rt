@@ -12,7 +12,7 @@ use std::alloc::{AllocError, Global};
 
 /// Writes the last line of an end. Where that fails, the fault's line was tried.
 pub fn tell<E: Sink>(err: &mut E, line: &[u8], status: Status) -> Status
-    ensures told { Tells status line.now (seen E.held E.calls E.faults err.old) (seen E.held E.calls E.faults err.new) result }
+    ensures told { Tells status line.now (seen E.held E.pieces E.faults err.old) (seen E.held E.pieces E.faults err.new) result }
 {
     match write_all(err, line) {
         Ok(()) => status,
@@ -23,7 +23,7 @@ pub fn tell<E: Sink>(err: &mut E, line: &[u8], status: Status) -> Status
 
 /// Writes the last line of an end, for which memory may have been refused.
 pub fn tell_made<E: Sink>(err: &mut E, line: Result<Vec<u8>, AllocError>, status: Status) -> Status
-    ensures told { (bytes : List ℕ) → IfOk line (λ l. l.items ≡ bytes) → Tells status bytes (seen E.held E.calls E.faults err.old) (seen E.held E.calls E.faults err.new) result }
+    ensures told { (bytes : List ℕ) → IfOk line (λ l. l.items ≡ bytes) → Tells status bytes (seen E.held E.pieces E.faults err.old) (seen E.held E.pieces E.faults err.new) result }
 {
     match line {
         Ok(line) => tell(err, &line, status),
@@ -33,7 +33,7 @@ pub fn tell_made<E: Sink>(err: &mut E, line: Result<Vec<u8>, AllocError>, status
 
 /// Tells why a source is refused.
 pub fn refuse<E: Sink>(alloc: Global, err: &mut E, reason: Reason) -> Status
-    ensures told { Tells Status.Refused (reason_line reason ++ 10 ∷ []) (seen E.held E.calls E.faults err.old) (seen E.held E.calls E.faults err.new) result }
+    ensures told { Tells Status.Refused (reason_line reason ++ 10 ∷ []) (seen E.held E.pieces E.faults err.old) (seen E.held E.pieces E.faults err.new) result }
 {
     tell_made(err, reason_line(alloc, reason), Status::Refused)
 }

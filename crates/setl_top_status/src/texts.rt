@@ -22,8 +22,8 @@ pub fn load_source<F: Files, E: Sink>(
     err: &mut E,
 ) -> Result<Vec<u8>, Status>
     ensures loaded { IfOk result (λ source. HasText (2 ^ 24) (F.texts files.old) name.now source.items) }
-    ensures still { OnOk result (IsStill name.now (seen_files F.texts F.asked F.faults files.old) (seen_files F.texts F.asked F.faults files.new) (seen E.held E.calls E.faults err.old) (seen E.held E.calls E.faults err.new)) }
-    ensures not_loaded { IfErr result (NoText name.now (seen_files F.texts F.asked F.faults files.old) (seen_files F.texts F.asked F.faults files.new) (seen E.held E.calls E.faults err.old) (seen E.held E.calls E.faults err.new)) }
+    ensures still { OnOk result (IsStill name.now (seen_files F.texts F.asked F.faults files.old) (seen_files F.texts F.asked F.faults files.new) (seen E.held E.pieces E.faults err.old) (seen E.held E.pieces E.faults err.new)) }
+    ensures not_loaded { IfErr result (NoText name.now (seen_files F.texts F.asked F.faults files.old) (seen_files F.texts F.asked F.faults files.new) (seen E.held E.pieces E.faults err.old) (seen E.held E.pieces E.faults err.new)) }
 {
     let mut source = Vec::new(alloc);
     match files.load(name, MAX_SOURCE, &mut source) {
@@ -44,8 +44,8 @@ pub fn load_text<F: Files, E: Sink>(
     err: &mut E,
 ) -> Result<Option<Vec<u8>>, Status>
     ensures loaded { IfOk result (λ text. FoundText vec_items most (F.texts files.old) name.now text) }
-    ensures still { OnOk result (IsStill name.now (seen_files F.texts F.asked F.faults files.old) (seen_files F.texts F.asked F.faults files.new) (seen E.held E.calls E.faults err.old) (seen E.held E.calls E.faults err.new)) }
-    ensures not_read { IfErr result (NotRead name.now (seen_files F.texts F.asked F.faults files.old) (seen_files F.texts F.asked F.faults files.new) (seen E.held E.calls E.faults err.old) (seen E.held E.calls E.faults err.new)) }
+    ensures still { OnOk result (IsStill name.now (seen_files F.texts F.asked F.faults files.old) (seen_files F.texts F.asked F.faults files.new) (seen E.held E.pieces E.faults err.old) (seen E.held E.pieces E.faults err.new)) }
+    ensures not_read { IfErr result (NotRead name.now (seen_files F.texts F.asked F.faults files.old) (seen_files F.texts F.asked F.faults files.new) (seen E.held E.pieces E.faults err.old) (seen E.held E.pieces E.faults err.new)) }
 {
     let mut source = Vec::new(alloc);
     match files.load(name, most, &mut source) {
@@ -58,7 +58,7 @@ pub fn load_text<F: Files, E: Sink>(
 
 /// Writes a text to the output. Where that fails, the fault's line was tried.
 pub fn write_text<O: Sink, E: Sink>(text: &[u8], out: &mut O, err: &mut E) -> Status
-    ensures { Written text.now (seen O.held O.calls O.faults out.old) (seen O.held O.calls O.faults out.new) (seen E.held E.calls E.faults err.old) (seen E.held E.calls E.faults err.new) result }
+    ensures { Written text.now (seen O.held O.pieces O.faults out.old) (seen O.held O.pieces O.faults out.new) (seen E.held E.pieces E.faults err.old) (seen E.held E.pieces E.faults err.new) result }
 {
     match write_all(out, text) {
         Ok(()) => Status::Done,

@@ -4,10 +4,11 @@ use Rattle.setl_io.specs.code.Plan.{Plan, is_to_fail}
 use Rattle.setl_io.specs.declared.outside.Put.{Put}
 use Rattle.setl_io.specs.declared.outside.Put.TheVariants.{Took, Failed, NoMemory}
 
--- the bytes held, how many it takes in a call at most, and which calls fail
+-- the bytes held, how many it takes in a call at most, how many pieces there were, up to 2^64 - 1, and which calls fail
 pub record MemSinkState : Type 0 where
   pub held : List ℕ
   pub most : ℕ
+  pub pieces : ℕ
   pub plan : Plan
 
 -- the write of this piece is a fault: the call is to fail, or no byte of a piece that isn't empty can be taken

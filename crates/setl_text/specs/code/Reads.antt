@@ -2,6 +2,7 @@
 use Rattle.std.specs.Prelude.{◌≡◌, ◌⊎◌, ℕ, List, [], ◌++◌, Bool, true, false, Result, Ok, Err, Option, Some, None, ⊤}
 use Rattle.std.specs.Io.KnownBytes.{Consumes, Keeps, IsAtEnd}
 use Rattle.setl_io.specs.Faults.{Rose}
+use Rattle.setl_io.specs.Source.{AreBytes, TellsBytes}
 use Rattle.setl_value.specs.code.DatumOf.{datum, part}
 use Rattle.setl_text.specs.Reading.{Reading, Denotes, AtEnd, NotForm, TooWide, TooDeep, Token, Open, resume, read_denotation}
 use Rattle.setl_text.specs.code.Scans.{token_of, TokenFits, IsShallow}
@@ -52,10 +53,13 @@ AnswersTold kept None kept' left' result = ⊤
 AnswersTold kept (Some left) kept' None result = ⊥
 AnswersTold kept (Some left) kept' (Some left') result = Answered result (kept' ++ left') (read_denotation (kept ++ left))
 
--- Of any input: it gave some bytes, and the answer is that to the bytes kept followed by these, whatever comes behind.
+-- Of any input: it gave some bytes, and the answer is that to the bytes kept followed by these, whatever comes behind. What
+-- it tells after that are bytes, if that was so before.
 pub record Gave (kept : List ℕ) (left : Option (List ℕ)) (kept' : List ℕ) (left' : Option (List ℕ)) (result : Result Got ReadFault) : Type 0 where
   pub gave : List ℕ
+  pub bytes : AreBytes gave
   pub taken : Consumes left left' gave
+  pub tells : TellsBytes left → TellsBytes left'
   pub answered : (more : List ℕ) → Answered result (kept' ++ more) (read_denotation (kept ++ (gave ++ more)))
 
 -- where the bytes left are told, these were all of them
@@ -66,6 +70,7 @@ IsAll (Some left) gave = left ≡ gave
 -- Or it gave some bytes and then told its end, and the answer is that to the bytes kept followed by these alone.
 pub record GaveAll (kept : List ℕ) (left : Option (List ℕ)) (kept' : List ℕ) (left' : Option (List ℕ)) (result : Result Got ReadFault) : Type 0 where
   pub gave : List ℕ
+  pub bytes : AreBytes gave
   pub all : IsAll left gave
   pub none : left' ≡ Some []
   pub empty : kept' ≡ []
@@ -100,9 +105,9 @@ ScansKept kept kept' t os new (Err NoMemory) = ⊤
 
 -- the input gave the bytes that are kept now, or told its end, or failed
 abbrev pub Fills : Option (List ℕ) → Option (List ℕ) → List ℕ → Result Bool ReadFault → Type 0
-Fills left left' kept' (Ok true) = Consumes left left' kept'
+Fills left left' kept' (Ok true) = Consumes left left' kept' × AreBytes kept' × TellsBytes left'
 Fills left left' kept' (Ok false) = IsAtEnd left × ((left' ≡ Some []) × (kept' ≡ []))
-Fills left left' kept' (Err Source) = Keeps left left'
+Fills left left' kept' (Err Source) = Keeps left left' × TellsBytes left'
 Fills left left' kept' (Err Form) = ⊥
 Fills left left' kept' (Err Wide) = ⊥
 Fills left left' kept' (Err Deep) = ⊥

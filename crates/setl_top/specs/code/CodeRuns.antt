@@ -14,6 +14,7 @@ use Rattle.setl_machine_control.specs.Answers.{start}
 use Rattle.setl_machine_control.specs.Declaring.{Modes, tested}
 use Rattle.setl_machine.specs.Hearing.{events_told, Hears}
 use Rattle.setl_machine.specs.Outcome.{last, Ran, ReadsOnly, Seen, seen}
+use Rattle.setl_machine.specs.Writing.{RunWrites}
 use Rattle.setl_machine_control.specs.declared.end.End.{End}
 use Rattle.setl_machine_control.specs.declared.end.End.TheVariants as end
 use Rattle.setl_watch.specs.Watches.{Watched}
@@ -26,7 +27,7 @@ abbrev pub seen_of : Streams → Seen
 seen_of s = seen s.output.held s.output.faults s.input.faults
 
 -- From its first state the machine did some steps of the code on this input, and ended so. What it left of the input and
--- what it keeps of it is what the last state has.
+-- what it keeps of it is what the last state has. Each print was one piece for the output.
 pub record RunsCode (c : Code) (modes : Modes) (turns : ℕ) (before after : Streams) (e : End) : Type 0 where
   pub input : List ℕ
   pub known : IsInput before.input.held input
@@ -38,6 +39,7 @@ pub record RunsCode (c : Code) (modes : Modes) (turns : ℕ) (before after : Str
   pub took : TakesOff before.input.held after.input.held
   pub whole : ¬ (e ≡ end.Paused)
   pub heard : Hears modes c steps (code_first c input turns).core before.watchers after.watchers e
+  pub wrote : RunWrites modes c steps (code_first c input turns).core before.output.calls after.output.calls e
 
 -- ---- the dump
 

@@ -2,6 +2,7 @@
 -- bound on turns, and whether declarations count.
 use Rattle.std.specs.Prelude.{◌≡◌, ◌⊎◌, ◌<◌, ℕ, List, [], ◌++◌, length, take, if◌then◌else◌}
 use Rattle.std.specs.Io.KnownBytes.{Appends, Consumes}
+use Rattle.setl_io.specs.Faults.{more}
 use Rattle.setl_model_runs.specs.Events as run
 use Rattle.setl_program.specs.Program.{Program}
 use Rattle.setl_program.specs.ProgramOf.{program_of}
@@ -11,6 +12,7 @@ use Rattle.setl_machine_control.specs.Declaring.{Modes}
 use Rattle.setl_machine_control.specs.Answers.{kind_of}
 use Rattle.setl_machine_control.specs.declared.end.End.{End}
 use Rattle.setl_machine_control.specs.declared.end.End.TheVariants as end
+use Rattle.setl_machine.specs.Prints.{prints}
 use Rattle.setl_top.specs.Headline.{IsInput, IsLeft}
 use Rattle.setl_top.specs.Runnable.{Runnable, declared_by, Meant, IsAt, Printing, Reading}
 use Rattle.setl_top_status.specs.Seen.{Seen, CountRose, CountStays}
@@ -37,9 +39,9 @@ pub record IsMeant (program : Program) : Type 0 where
 abbrev pub counted : Options → Runnable → Modes
 counted asked r = if asked.based then declared_by r else []
 
--- the run came to this end of the meaning, whose output is added, and left what the meaning's last state has of the
--- input, which is a state that it reaches; the watchers were told its events, and the dump stands before the reports where it is
--- asked for
+-- the run came to this end of the meaning, whose output is added, each print as one piece, and left what the meaning's last state
+-- has of the input, which is a state that it reaches; the watchers were told its events, and the dump stands before the reports
+-- where it is asked for
 pub record RunsTo (r : Runnable) (asked : Options) (before after : Streams) (end : run.End) : Type 0 where
   pub input : List ℕ
   pub known : IsInput before.input.held input
@@ -48,6 +50,7 @@ pub record RunsTo (r : Runnable) (asked : Options) (before after : Streams) (end
   pub at_end : IsAt r input asked.turns asked.based out
   pub left : IsLeft before.input.held after.input.held means.left
   pub gained : Appends before.output.held after.output.held out
+  pub writes : after.output.calls ≡ more (prints means.events) before.output.calls
   pub input_count : CountStays before.input after.input
   pub out_count : CountStays before.output after.output
   pub told : after.watchers ≡ headed (if dumps asked then means.dump else []) (told_all means.events before.watchers)

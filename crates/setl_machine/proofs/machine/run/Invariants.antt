@@ -8,8 +8,8 @@ use Rattle.setl_machine.proofs.machine.run.Given as goal
 
 abbrev pub invariant-loop-done : goal.invariant-loop-done
 invariant-loop-done g l =
-    let old = moment l.fn.store.core l.fn.control (g.O.Sink.held l.fn.out) (g.O.Sink.faults l.fn.out) (g.I.Source.faults l.fn.input) (g.I.Source.left l.fn.input) l.fn.store.bases in
-    let now = moment l.store.core l.control (g.O.Sink.held l.out) (g.O.Sink.faults l.out) (g.I.Source.faults l.input) (g.I.Source.left l.input) l.store.bases in
+    let old = moment l.fn.store.core l.fn.control (g.O.Sink.held l.fn.out) (g.O.Sink.faults l.fn.out) (g.I.Source.faults l.fn.input) (g.I.Source.left l.fn.input) l.fn.store.bases (g.O.Sink.pieces l.fn.out) in
+    let now = moment l.store.core l.control (g.O.Sink.held l.out) (g.O.Sink.faults l.out) (g.I.Source.faults l.input) (g.I.Source.left l.input) l.store.bases (g.O.Sink.pieces l.out) in
     record {
       ran : Runs (modes_of l.declarations) (plain_code l.fn.store.code) l.done old now Paused;
       code : l.store.code ≡ l.fn.store.code;

@@ -12,6 +12,7 @@ use Rattle.setl_machine.specs.Outcome.{seen}
 use Rattle.setl_machine.proofs.RunGains.{ended_gains}
 use Rattle.setl_machine.proofs.Stays.{takes_none}
 use Rattle.setl_machine.proofs.Stepping.{in_hand, by_step, quiet_steps, quiet_no_write, quiet_no_read, stays_honest}
+use Rattle.setl_machine.proofs.Writing.{hand_writes, quiet_writes, read_writes}
 use Rattle.setl_machine.proofs.machine.step.Goals as goal
 
 pub returns-in-Print-clause-did : goal.returns-in-Print-clause-did
@@ -37,6 +38,23 @@ returns-in-Print-clause-gained g c = λ rest rest'.
     let k = stood_for s.core c.args.control.now rest in
     let d = stood_for c.print.new.store.core c.args.control.now rest' in
     ended_gains modes m line (PrintTop c.in-Print.count) k d s.bases c.print.new.store.bases c.print.result here (c.print.ensures.gained modes line k d)
+
+pub returns-in-Print-clause-wrote : goal.returns-in-Print-clause-wrote
+returns-in-Print-clause-wrote g c = λ rest.
+    let s = c.args.store.now in
+    let m = plain_code s.code in
+    let modes = modes_of c.args.declarations.now in
+    let line = c.in-Some.step.now.line in
+    let here : fetch m s.core.now.body s.core.now.at ≡ Some (line, PrintTop c.in-Print.count) = in_hand m s.core (variables s.core) c.in-Some.step.now (Print c.in-Print.count) c.in-Some.ensures.some c.in-Print.is in
+    hand_writes modes m (stood_for s.core c.args.control.now rest) line (PrintTop c.in-Print.count) (g.O.Sink.pieces c.args.out.now) (g.O.Sink.pieces c.print.new.out) c.print.result here (c.print.ensures.wrote modes line (world_of c.args.control.now rest))
+
+pub returns-in-Read-clause-wrote : goal.returns-in-Read-clause-wrote
+returns-in-Read-clause-wrote g c = λ rest.
+    let s = c.args.store.now in
+    let m = plain_code s.code in
+    let line = c.in-Some.step.now.line in
+    let here : fetch m s.core.now.body s.core.now.at ≡ Some (line, ReadOne) = in_hand m s.core (variables s.core) c.in-Some.step.now Read c.in-Some.ensures.some c.in-Read.is in
+    read_writes (modes_of c.args.declarations.now) m (stood_for s.core c.args.control.now rest) line (g.O.Sink.pieces c.args.out.now) c.read.result here
 
 pub returns-in-Read-clause-gained : goal.returns-in-Read-clause-gained
 returns-in-Read-clause-gained g c = λ rest rest'.
@@ -81,6 +99,7 @@ returns-in_default-family_of g c =
             by_step (modes_of c.args.declarations.now) m k to line what now now c.quiet_step.result c.in-Some.ensures.some (quiet_steps (modes_of c.args.declarations.now) (next_of (modes_of c.args.declarations.now) m line what k) to now c.quiet_step.result (c.quiet_step.ensures.did rest)),
           );
       gained = λ rest rest'. ended_gains (modes_of c.args.declarations.now) m line what (stood_for s.core c.args.control.now rest) (stood_for c.quiet_step.new.store.core c.quiet_step.new.control rest') s.bases c.quiet_step.new.store.bases c.quiet_step.result c.in-Some.ensures.some (c.quiet_step.ensures.gained rest rest');
+      wrote = λ rest. quiet_writes (modes_of c.args.declarations.now) m (stood_for s.core c.args.control.now rest) (stood_for c.quiet_step.new.store.core c.quiet_step.new.control rest) line what (g.O.Sink.pieces c.args.out.now) c.quiet_step.result c.in-Some.ensures.some (c.quiet_step.ensures.did rest);
       prints = λ e. absurd (quiet_no_write (modes_of c.args.declarations.now) (next_of (modes_of c.args.declarations.now) m line what (stood_for s.core c.args.control.now [])) (stood_for c.quiet_step.new.store.core c.quiet_step.new.control []) c.quiet_step.result (c.quiet_step.ensures.did []) e);
       reads = λ e. absurd (quiet_no_read (modes_of c.args.declarations.now) (next_of (modes_of c.args.declarations.now) m line what (stood_for s.core c.args.control.now [])) (stood_for c.quiet_step.new.store.core c.quiet_step.new.control []) c.quiet_step.result (c.quiet_step.ensures.did []) e);
       reads_only = inl refl;

@@ -16,6 +16,7 @@ use Rattle.setl_machine.proofs.RunGains.{ended_gains}
 use Rattle.setl_machine.proofs.Stays.{takes_none}
 use Rattle.setl_machine.proofs.Stepping.{in_hand, by_step, quiet_steps, quiet_no_write, quiet_no_read, stays_honest}
 use Rattle.setl_machine.proofs.Told.{tells_code, tells_ends, tells_here, on_ok}
+use Rattle.setl_machine.proofs.Writing.{hand_writes, quiet_writes, read_writes}
 use Rattle.setl_machine.proofs.telling.step_telling.Goals as goal
 
 pub returns-in-Print-clause-did : goal.returns-in-Print-clause-did
@@ -41,6 +42,15 @@ returns-in-Print-clause-gained g c = λ rest rest'.
     let k = stood_for s.core c.args.control.now rest in
     let d = stood_for c.print_telling.new.store.core c.args.control.now rest' in
     ended_gains modes m line (PrintTop c.in-Print.count) k d s.bases c.print_telling.new.store.bases (ended c.print_telling.result) here (c.print_telling.ensures.gained modes line k d)
+
+pub returns-in-Print-clause-wrote : goal.returns-in-Print-clause-wrote
+returns-in-Print-clause-wrote g c = λ rest.
+    let s = c.args.store.now in
+    let m = plain_code s.code in
+    let modes = modes_of c.args.declarations.now in
+    let line = c.in-Some.step.now.line in
+    let here : fetch m s.core.now.body s.core.now.at ≡ Some (line, PrintTop c.in-Print.count) = in_hand m s.core (variables s.core) c.in-Some.step.now (Print c.in-Print.count) c.in-Some.ensures.some c.in-Print.is in
+    hand_writes modes m (stood_for s.core c.args.control.now rest) line (PrintTop c.in-Print.count) (g.O.Sink.pieces c.args.out.now) (g.O.Sink.pieces c.print_telling.new.out) (ended c.print_telling.result) here (c.print_telling.ensures.wrote modes line (world_of c.args.control.now rest))
 
 pub returns-in-Print-clause-tells : goal.returns-in-Print-clause-tells
 returns-in-Print-clause-tells g c =
@@ -84,6 +94,14 @@ returns-in-Paused-clause-gained g c = λ rest rest'.
     let d = stood_for c.read.new.store.core c.read.new.control rest' in
     ended_gains modes m line ReadOne k d s.bases c.read.new.store.bases Paused here (subst (Gains modes m line ReadOne k d s.bases c.read.new.store.bases) c.in-Paused.is (c.read.ensures.gained modes line k d))
 
+pub returns-in-Paused-clause-wrote : goal.returns-in-Paused-clause-wrote
+returns-in-Paused-clause-wrote g c = λ rest.
+    let s = c.args.store.now in
+    let m = plain_code s.code in
+    let line = c.in-Some.step.now.line in
+    let here : fetch m s.core.now.body s.core.now.at ≡ Some (line, ReadOne) = in_hand m s.core (variables s.core) c.in-Some.step.now Read c.in-Some.ensures.some c.in-Read.is in
+    read_writes (modes_of c.args.declarations.now) m (stood_for s.core c.args.control.now rest) line (g.O.Sink.pieces c.args.out.now) Paused here
+
 pub returns-in_default-read : goal.returns-in_default-read
 returns-in_default-read g c =
     let s = c.args.store.now in
@@ -105,6 +123,7 @@ returns-in_default-read g c =
           let k = stood_for s.core c.args.control.now rest in
           let d = stood_for c.read.new.store.core c.read.new.control rest' in
           ended_gains modes m line ReadOne k d s.bases c.read.new.store.bases c.read.result here (c.read.ensures.gained modes line k d);
+      wrote = λ rest. read_writes modes m (stood_for s.core c.args.control.now rest) line (g.O.Sink.pieces c.args.out.now) c.read.result here;
       tells = λ line' i f. c.in_default-read.not-Paused;
       prints = λ e. absurd (c.read.ensures.no_write e);
       reads = λ e. (line, here);
@@ -140,6 +159,7 @@ returns-in_default-family_of g c =
             by_step modes m k d line what now now (ended r) c.in-Some.ensures.some (quiet_steps modes (next_of modes m line what k) d now (ended r) (does.0 rest)),
           );
       gained = λ rest rest'. ended_gains modes m line what (stood_for s.core from rest) (stood_for new.core to rest') s.bases new.bases (ended r) c.in-Some.ensures.some (c.quiet_telling.ensures.gained rest rest');
+      wrote = λ rest. quiet_writes modes m (stood_for s.core from rest) (stood_for new.core to rest) line what (g.O.Sink.pieces c.args.out.now) (ended r) c.in-Some.ensures.some (does.0 rest);
       tells = tells_here s new from to line what r c.in-Some.ensures.some does.1;
       prints = λ e. absurd (quiet_no_write modes (next_of modes m line what (stood_for s.core from [])) (stood_for new.core to []) (ended r) (does.0 []) e);
       reads = λ e. absurd (quiet_no_read modes (next_of modes m line what (stood_for s.core from [])) (stood_for new.core to []) (ended r) (does.0 []) e);

@@ -17,10 +17,10 @@ loop-steps-preserved g c =
     let l = c.loop-steps in
     let i = l.invariant in
     let modes = modes_of c.args.declarations.now in
-    let old = moment s.core c.args.control.now (g.O.Sink.held c.args.out.now) (g.O.Sink.faults c.args.out.now) (g.I.Source.faults c.args.input.now) (g.I.Source.left c.args.input.now) s.bases in
-    let mid = moment l.store.core l.control (g.O.Sink.held l.out) (g.O.Sink.faults l.out) (g.I.Source.faults l.input) (g.I.Source.left l.input) l.store.bases in
+    let old = moment s.core c.args.control.now (g.O.Sink.held c.args.out.now) (g.O.Sink.faults c.args.out.now) (g.I.Source.faults c.args.input.now) (g.I.Source.left c.args.input.now) s.bases (g.O.Sink.pieces c.args.out.now) in
+    let mid = moment l.store.core l.control (g.O.Sink.held l.out) (g.O.Sink.faults l.out) (g.I.Source.faults l.input) (g.I.Source.left l.input) l.store.bases (g.O.Sink.pieces l.out) in
     let n = c.step_telling.new in
-    let new = moment n.store.core n.control (g.O.Sink.held n.out) (g.O.Sink.faults n.out) (g.I.Source.faults n.input) (g.I.Source.left n.input) n.store.bases in
+    let new = moment n.store.core n.control (g.O.Sink.held n.out) (g.O.Sink.faults n.out) (g.I.Source.faults n.input) (g.I.Source.left n.input) n.store.bases (g.O.Sink.pieces n.out) in
     let h = watched (map (λ w. (goal.Watcher-dyn g (w.vtable, w.value)).watch w.value) c.args.watchers.now.items) c.args.reports.now.items in
     let h1 = watched (map (λ w. (goal.Watcher-dyn g (w.vtable, w.value)).watch w.value) l.watchers.items) l.reports.items in
     let h2 = watched (map (λ w. (goal.Watcher-dyn g (w.vtable, w.value)).watch w.value) c.tell_each.new.watchers.items) c.tell_each.new.reports.items in
@@ -28,7 +28,7 @@ loop-steps-preserved g c =
     let es = c.in-Ok.events.items in
     let d = plain_code l.store.code in
     let bare : IsBare d = subst (λ c. IsBare (plain_code c)) (sym i.code) c.requires.serves.bare in
-    let did = step_did c.events_are.ensures c.ends_tell_nothing.ensures modes d mid new Paused c.requires.serves.main bare a.did a.gained in
+    let did = step_did c.events_are.ensures c.ends_tell_nothing.ensures modes d mid new Paused c.requires.serves.main bare a.did a.gained a.wrote in
     let told : h2 ≡ told_each (map notice_of es) h1 = c.in-Ok-tell_each.ensures ∙ ap (λ es. told_each (map notice_of es) h1) c.deref.ensures.value in
     record {
       heard = heard_on c.told_in_parts.ensures modes (plain_code s.code) d l.steps old mid new h h1 h2 Paused (ap plain_code i.code) i.heard
@@ -45,10 +45,10 @@ returns-then-is_empty-clause-ran g c =
     let l = c.loop-steps in
     let i = l.invariant in
     let modes = modes_of c.args.declarations.now in
-    let old = moment s.core c.args.control.now (g.O.Sink.held c.args.out.now) (g.O.Sink.faults c.args.out.now) (g.I.Source.faults c.args.input.now) (g.I.Source.left c.args.input.now) s.bases in
-    let mid = moment l.store.core l.control (g.O.Sink.held l.out) (g.O.Sink.faults l.out) (g.I.Source.faults l.input) (g.I.Source.left l.input) l.store.bases in
+    let old = moment s.core c.args.control.now (g.O.Sink.held c.args.out.now) (g.O.Sink.faults c.args.out.now) (g.I.Source.faults c.args.input.now) (g.I.Source.left c.args.input.now) s.bases (g.O.Sink.pieces c.args.out.now) in
+    let mid = moment l.store.core l.control (g.O.Sink.held l.out) (g.O.Sink.faults l.out) (g.I.Source.faults l.input) (g.I.Source.left l.input) l.store.bases (g.O.Sink.pieces l.out) in
     let n = c.run_whole.new in
-    let new = moment n.store.core n.control (g.O.Sink.held n.out) (g.O.Sink.faults n.out) (g.I.Source.faults n.input) (g.I.Source.left n.input) n.store.bases in
+    let new = moment n.store.core n.control (g.O.Sink.held n.out) (g.O.Sink.faults n.out) (g.I.Source.faults n.input) (g.I.Source.left n.input) n.store.bases (g.O.Sink.pieces n.out) in
     let h = watched (map (λ w. (goal.Watcher-dyn g (w.vtable, w.value)).watch w.value) c.args.watchers.now.items) c.args.reports.now.items in
     let h1 = watched (map (λ w. (goal.Watcher-dyn g (w.vtable, w.value)).watch w.value) l.watchers.items) l.reports.items in
     let none : l.watchers.len ≡ 0 = eqb-true l.watchers.len 0 (sym c.if-is_empty.ensures) in
@@ -60,10 +60,10 @@ returns-then-is_empty-clause-took g c =
     let l = c.loop-steps in
     let i = l.invariant in
     let modes = modes_of c.args.declarations.now in
-    let old = moment s.core c.args.control.now (g.O.Sink.held c.args.out.now) (g.O.Sink.faults c.args.out.now) (g.I.Source.faults c.args.input.now) (g.I.Source.left c.args.input.now) s.bases in
-    let mid = moment l.store.core l.control (g.O.Sink.held l.out) (g.O.Sink.faults l.out) (g.I.Source.faults l.input) (g.I.Source.left l.input) l.store.bases in
+    let old = moment s.core c.args.control.now (g.O.Sink.held c.args.out.now) (g.O.Sink.faults c.args.out.now) (g.I.Source.faults c.args.input.now) (g.I.Source.left c.args.input.now) s.bases (g.O.Sink.pieces c.args.out.now) in
+    let mid = moment l.store.core l.control (g.O.Sink.held l.out) (g.O.Sink.faults l.out) (g.I.Source.faults l.input) (g.I.Source.left l.input) l.store.bases (g.O.Sink.pieces l.out) in
     let n = c.run_whole.new in
-    let new = moment n.store.core n.control (g.O.Sink.held n.out) (g.O.Sink.faults n.out) (g.I.Source.faults n.input) (g.I.Source.left n.input) n.store.bases in
+    let new = moment n.store.core n.control (g.O.Sink.held n.out) (g.O.Sink.faults n.out) (g.I.Source.faults n.input) (g.I.Source.left n.input) n.store.bases (g.O.Sink.pieces n.out) in
     takes_then old.left mid.left new.left i.took c.run_whole.ensures.took
 
 pub returns-then-is_empty-clause-honest : goal.returns-then-is_empty-clause-honest
@@ -72,10 +72,10 @@ returns-then-is_empty-clause-honest g c =
     let l = c.loop-steps in
     let i = l.invariant in
     let modes = modes_of c.args.declarations.now in
-    let old = moment s.core c.args.control.now (g.O.Sink.held c.args.out.now) (g.O.Sink.faults c.args.out.now) (g.I.Source.faults c.args.input.now) (g.I.Source.left c.args.input.now) s.bases in
-    let mid = moment l.store.core l.control (g.O.Sink.held l.out) (g.O.Sink.faults l.out) (g.I.Source.faults l.input) (g.I.Source.left l.input) l.store.bases in
+    let old = moment s.core c.args.control.now (g.O.Sink.held c.args.out.now) (g.O.Sink.faults c.args.out.now) (g.I.Source.faults c.args.input.now) (g.I.Source.left c.args.input.now) s.bases (g.O.Sink.pieces c.args.out.now) in
+    let mid = moment l.store.core l.control (g.O.Sink.held l.out) (g.O.Sink.faults l.out) (g.I.Source.faults l.input) (g.I.Source.left l.input) l.store.bases (g.O.Sink.pieces l.out) in
     let n = c.run_whole.new in
-    let new = moment n.store.core n.control (g.O.Sink.held n.out) (g.O.Sink.faults n.out) (g.I.Source.faults n.input) (g.I.Source.left n.input) n.store.bases in
+    let new = moment n.store.core n.control (g.O.Sink.held n.out) (g.O.Sink.faults n.out) (g.I.Source.faults n.input) (g.I.Source.left n.input) n.store.bases (g.O.Sink.pieces n.out) in
     honest_then old.control.reader.ended mid.control.reader.ended new.control.reader.ended old.left mid.left new.left i.took i.honest c.run_whole.ensures.honest
 
 pub returns-in-Err-clause-ran : goal.returns-in-Err-clause-ran
@@ -84,17 +84,17 @@ returns-in-Err-clause-ran g c =
     let l = c.loop-steps in
     let i = l.invariant in
     let modes = modes_of c.args.declarations.now in
-    let old = moment s.core c.args.control.now (g.O.Sink.held c.args.out.now) (g.O.Sink.faults c.args.out.now) (g.I.Source.faults c.args.input.now) (g.I.Source.left c.args.input.now) s.bases in
-    let mid = moment l.store.core l.control (g.O.Sink.held l.out) (g.O.Sink.faults l.out) (g.I.Source.faults l.input) (g.I.Source.left l.input) l.store.bases in
+    let old = moment s.core c.args.control.now (g.O.Sink.held c.args.out.now) (g.O.Sink.faults c.args.out.now) (g.I.Source.faults c.args.input.now) (g.I.Source.left c.args.input.now) s.bases (g.O.Sink.pieces c.args.out.now) in
+    let mid = moment l.store.core l.control (g.O.Sink.held l.out) (g.O.Sink.faults l.out) (g.I.Source.faults l.input) (g.I.Source.left l.input) l.store.bases (g.O.Sink.pieces l.out) in
     let n = c.step_telling.new in
-    let new = moment n.store.core n.control (g.O.Sink.held n.out) (g.O.Sink.faults n.out) (g.I.Source.faults n.input) (g.I.Source.left n.input) n.store.bases in
+    let new = moment n.store.core n.control (g.O.Sink.held n.out) (g.O.Sink.faults n.out) (g.I.Source.faults n.input) (g.I.Source.left n.input) n.store.bases (g.O.Sink.pieces n.out) in
     let h = watched (map (λ w. (goal.Watcher-dyn g (w.vtable, w.value)).watch w.value) c.args.watchers.now.items) c.args.reports.now.items in
     let h1 = watched (map (λ w. (goal.Watcher-dyn g (w.vtable, w.value)).watch w.value) l.watchers.items) l.reports.items in
     let a = c.in-Err.ensures in
     let end = c.in-Err.end in
     let d = plain_code l.store.code in
     let bare : IsBare d = subst (λ c. IsBare (plain_code c)) (sym i.code) c.requires.serves.bare in
-    let did = step_did c.events_are.ensures c.ends_tell_nothing.ensures modes d mid new end c.requires.serves.main bare a.did a.gained in
+    let did = step_did c.events_are.ensures c.ends_tell_nothing.ensures modes d mid new end c.requires.serves.main bare a.did a.gained a.wrote in
     some_heard modes (plain_code s.code) (l.steps + 1) old new h h1 end
     (heard_on c.told_in_parts.ensures modes (plain_code s.code) d l.steps old mid new h h1 h1 end (ap plain_code i.code) i.heard
     (heard_ended c.ends_tell_nothing.ensures modes d mid new h1 end c.requires.serves.main bare a.ends (runs_one modes d mid new end did a.reads a.prints a.reads_only)))
@@ -105,10 +105,10 @@ returns-in-Err-clause-took g c =
     let l = c.loop-steps in
     let i = l.invariant in
     let modes = modes_of c.args.declarations.now in
-    let old = moment s.core c.args.control.now (g.O.Sink.held c.args.out.now) (g.O.Sink.faults c.args.out.now) (g.I.Source.faults c.args.input.now) (g.I.Source.left c.args.input.now) s.bases in
-    let mid = moment l.store.core l.control (g.O.Sink.held l.out) (g.O.Sink.faults l.out) (g.I.Source.faults l.input) (g.I.Source.left l.input) l.store.bases in
+    let old = moment s.core c.args.control.now (g.O.Sink.held c.args.out.now) (g.O.Sink.faults c.args.out.now) (g.I.Source.faults c.args.input.now) (g.I.Source.left c.args.input.now) s.bases (g.O.Sink.pieces c.args.out.now) in
+    let mid = moment l.store.core l.control (g.O.Sink.held l.out) (g.O.Sink.faults l.out) (g.I.Source.faults l.input) (g.I.Source.left l.input) l.store.bases (g.O.Sink.pieces l.out) in
     let n = c.step_telling.new in
-    let new = moment n.store.core n.control (g.O.Sink.held n.out) (g.O.Sink.faults n.out) (g.I.Source.faults n.input) (g.I.Source.left n.input) n.store.bases in
+    let new = moment n.store.core n.control (g.O.Sink.held n.out) (g.O.Sink.faults n.out) (g.I.Source.faults n.input) (g.I.Source.left n.input) n.store.bases (g.O.Sink.pieces n.out) in
     takes_then old.left mid.left new.left i.took c.in-Err.ensures.took
 
 pub returns-in-Err-clause-honest : goal.returns-in-Err-clause-honest
@@ -117,10 +117,10 @@ returns-in-Err-clause-honest g c =
     let l = c.loop-steps in
     let i = l.invariant in
     let modes = modes_of c.args.declarations.now in
-    let old = moment s.core c.args.control.now (g.O.Sink.held c.args.out.now) (g.O.Sink.faults c.args.out.now) (g.I.Source.faults c.args.input.now) (g.I.Source.left c.args.input.now) s.bases in
-    let mid = moment l.store.core l.control (g.O.Sink.held l.out) (g.O.Sink.faults l.out) (g.I.Source.faults l.input) (g.I.Source.left l.input) l.store.bases in
+    let old = moment s.core c.args.control.now (g.O.Sink.held c.args.out.now) (g.O.Sink.faults c.args.out.now) (g.I.Source.faults c.args.input.now) (g.I.Source.left c.args.input.now) s.bases (g.O.Sink.pieces c.args.out.now) in
+    let mid = moment l.store.core l.control (g.O.Sink.held l.out) (g.O.Sink.faults l.out) (g.I.Source.faults l.input) (g.I.Source.left l.input) l.store.bases (g.O.Sink.pieces l.out) in
     let n = c.step_telling.new in
-    let new = moment n.store.core n.control (g.O.Sink.held n.out) (g.O.Sink.faults n.out) (g.I.Source.faults n.input) (g.I.Source.left n.input) n.store.bases in
+    let new = moment n.store.core n.control (g.O.Sink.held n.out) (g.O.Sink.faults n.out) (g.I.Source.faults n.input) (g.I.Source.left n.input) n.store.bases (g.O.Sink.pieces n.out) in
     honest_then old.control.reader.ended mid.control.reader.ended new.control.reader.ended old.left mid.left new.left i.took i.honest c.in-Err.ensures.honest
 
 pub returns-in_default-clause-ran : goal.returns-in_default-clause-ran
@@ -129,10 +129,10 @@ returns-in_default-clause-ran g c =
     let l = c.loop-steps in
     let i = l.invariant in
     let modes = modes_of c.args.declarations.now in
-    let old = moment s.core c.args.control.now (g.O.Sink.held c.args.out.now) (g.O.Sink.faults c.args.out.now) (g.I.Source.faults c.args.input.now) (g.I.Source.left c.args.input.now) s.bases in
-    let mid = moment l.store.core l.control (g.O.Sink.held l.out) (g.O.Sink.faults l.out) (g.I.Source.faults l.input) (g.I.Source.left l.input) l.store.bases in
+    let old = moment s.core c.args.control.now (g.O.Sink.held c.args.out.now) (g.O.Sink.faults c.args.out.now) (g.I.Source.faults c.args.input.now) (g.I.Source.left c.args.input.now) s.bases (g.O.Sink.pieces c.args.out.now) in
+    let mid = moment l.store.core l.control (g.O.Sink.held l.out) (g.O.Sink.faults l.out) (g.I.Source.faults l.input) (g.I.Source.left l.input) l.store.bases (g.O.Sink.pieces l.out) in
     let n = c.step_telling.new in
-    let new = moment n.store.core n.control (g.O.Sink.held n.out) (g.O.Sink.faults n.out) (g.I.Source.faults n.input) (g.I.Source.left n.input) n.store.bases in
+    let new = moment n.store.core n.control (g.O.Sink.held n.out) (g.O.Sink.faults n.out) (g.I.Source.faults n.input) (g.I.Source.left n.input) n.store.bases (g.O.Sink.pieces n.out) in
     let h = watched (map (λ w. (goal.Watcher-dyn g (w.vtable, w.value)).watch w.value) c.args.watchers.now.items) c.args.reports.now.items in
     let h1 = watched (map (λ w. (goal.Watcher-dyn g (w.vtable, w.value)).watch w.value) l.watchers.items) l.reports.items in
     let h2 = watched (map (λ w. (goal.Watcher-dyn g (w.vtable, w.value)).watch w.value) c.tell_each.new.watchers.items) c.tell_each.new.reports.items in
@@ -141,7 +141,7 @@ returns-in_default-clause-ran g c =
     let d = plain_code l.store.code in
     let h3 = told_each (map notice_of es) h1 in
     let bare : IsBare d = subst (λ c. IsBare (plain_code c)) (sym i.code) c.requires.serves.bare in
-    let did = step_did c.events_are.ensures c.ends_tell_nothing.ensures modes d mid new Paused c.requires.serves.main bare a.did a.gained in
+    let did = step_did c.events_are.ensures c.ends_tell_nothing.ensures modes d mid new Paused c.requires.serves.main bare a.did a.gained a.wrote in
     heard_gives_up modes (plain_code s.code) (l.steps + 1) old new h h3 h2
     (heard_on c.told_in_parts.ensures modes (plain_code s.code) d l.steps old mid new h h1 h3 Paused (ap plain_code i.code) i.heard
     (heard_paused c.events_are.ensures modes d mid new es h1 h3 (runs_one modes d mid new Paused did a.reads a.prints a.reads_only) (λ line i f. (a.tells line i f).1) refl))
@@ -152,10 +152,10 @@ returns-in_default-clause-took g c =
     let l = c.loop-steps in
     let i = l.invariant in
     let modes = modes_of c.args.declarations.now in
-    let old = moment s.core c.args.control.now (g.O.Sink.held c.args.out.now) (g.O.Sink.faults c.args.out.now) (g.I.Source.faults c.args.input.now) (g.I.Source.left c.args.input.now) s.bases in
-    let mid = moment l.store.core l.control (g.O.Sink.held l.out) (g.O.Sink.faults l.out) (g.I.Source.faults l.input) (g.I.Source.left l.input) l.store.bases in
+    let old = moment s.core c.args.control.now (g.O.Sink.held c.args.out.now) (g.O.Sink.faults c.args.out.now) (g.I.Source.faults c.args.input.now) (g.I.Source.left c.args.input.now) s.bases (g.O.Sink.pieces c.args.out.now) in
+    let mid = moment l.store.core l.control (g.O.Sink.held l.out) (g.O.Sink.faults l.out) (g.I.Source.faults l.input) (g.I.Source.left l.input) l.store.bases (g.O.Sink.pieces l.out) in
     let n = c.step_telling.new in
-    let new = moment n.store.core n.control (g.O.Sink.held n.out) (g.O.Sink.faults n.out) (g.I.Source.faults n.input) (g.I.Source.left n.input) n.store.bases in
+    let new = moment n.store.core n.control (g.O.Sink.held n.out) (g.O.Sink.faults n.out) (g.I.Source.faults n.input) (g.I.Source.left n.input) n.store.bases (g.O.Sink.pieces n.out) in
     takes_then old.left mid.left new.left i.took c.in-Ok.ensures.took
 
 pub returns-in_default-clause-honest : goal.returns-in_default-clause-honest
@@ -164,10 +164,10 @@ returns-in_default-clause-honest g c =
     let l = c.loop-steps in
     let i = l.invariant in
     let modes = modes_of c.args.declarations.now in
-    let old = moment s.core c.args.control.now (g.O.Sink.held c.args.out.now) (g.O.Sink.faults c.args.out.now) (g.I.Source.faults c.args.input.now) (g.I.Source.left c.args.input.now) s.bases in
-    let mid = moment l.store.core l.control (g.O.Sink.held l.out) (g.O.Sink.faults l.out) (g.I.Source.faults l.input) (g.I.Source.left l.input) l.store.bases in
+    let old = moment s.core c.args.control.now (g.O.Sink.held c.args.out.now) (g.O.Sink.faults c.args.out.now) (g.I.Source.faults c.args.input.now) (g.I.Source.left c.args.input.now) s.bases (g.O.Sink.pieces c.args.out.now) in
+    let mid = moment l.store.core l.control (g.O.Sink.held l.out) (g.O.Sink.faults l.out) (g.I.Source.faults l.input) (g.I.Source.left l.input) l.store.bases (g.O.Sink.pieces l.out) in
     let n = c.step_telling.new in
-    let new = moment n.store.core n.control (g.O.Sink.held n.out) (g.O.Sink.faults n.out) (g.I.Source.faults n.input) (g.I.Source.left n.input) n.store.bases in
+    let new = moment n.store.core n.control (g.O.Sink.held n.out) (g.O.Sink.faults n.out) (g.I.Source.faults n.input) (g.I.Source.left n.input) n.store.bases (g.O.Sink.pieces n.out) in
     honest_then old.control.reader.ended mid.control.reader.ended new.control.reader.ended old.left mid.left new.left i.took i.honest c.in-Ok.ensures.honest
 
 pub returns-clause-ran : goal.returns-clause-ran
@@ -176,8 +176,8 @@ returns-clause-ran g c =
     let l = c.loop-steps in
     let i = l.invariant in
     let modes = modes_of c.args.declarations.now in
-    let old = moment s.core c.args.control.now (g.O.Sink.held c.args.out.now) (g.O.Sink.faults c.args.out.now) (g.I.Source.faults c.args.input.now) (g.I.Source.left c.args.input.now) s.bases in
-    let mid = moment l.store.core l.control (g.O.Sink.held l.out) (g.O.Sink.faults l.out) (g.I.Source.faults l.input) (g.I.Source.left l.input) l.store.bases in
+    let old = moment s.core c.args.control.now (g.O.Sink.held c.args.out.now) (g.O.Sink.faults c.args.out.now) (g.I.Source.faults c.args.input.now) (g.I.Source.left c.args.input.now) s.bases (g.O.Sink.pieces c.args.out.now) in
+    let mid = moment l.store.core l.control (g.O.Sink.held l.out) (g.O.Sink.faults l.out) (g.I.Source.faults l.input) (g.I.Source.left l.input) l.store.bases (g.O.Sink.pieces l.out) in
     let h = watched (map (λ w. (goal.Watcher-dyn g (w.vtable, w.value)).watch w.value) c.args.watchers.now.items) c.args.reports.now.items in
     let h1 = watched (map (λ w. (goal.Watcher-dyn g (w.vtable, w.value)).watch w.value) l.watchers.items) l.reports.items in
     heard_gives_up modes (plain_code s.code) l.steps old mid h h1 h1 i.heard
@@ -186,8 +186,8 @@ pub run_whole-requires-clause-serves : goal.run_whole-requires-clause-serves
 run_whole-requires-clause-serves g c =
     let l = c.loop-steps in
     let i = l.invariant in
-    let a = moment c.args.store.now.core c.args.control.now (g.O.Sink.held c.args.out.now) (g.O.Sink.faults c.args.out.now) (g.I.Source.faults c.args.input.now) (g.I.Source.left c.args.input.now) c.args.store.now.bases in
-    let b = moment l.store.core l.control (g.O.Sink.held l.out) (g.O.Sink.faults l.out) (g.I.Source.faults l.input) (g.I.Source.left l.input) l.store.bases in
+    let a = moment c.args.store.now.core c.args.control.now (g.O.Sink.held c.args.out.now) (g.O.Sink.faults c.args.out.now) (g.I.Source.faults c.args.input.now) (g.I.Source.left c.args.input.now) c.args.store.now.bases (g.O.Sink.pieces c.args.out.now) in
+    let b = moment l.store.core l.control (g.O.Sink.held l.out) (g.O.Sink.faults l.out) (g.I.Source.faults l.input) (g.I.Source.left l.input) l.store.bases (g.O.Sink.pieces l.out) in
     let h = watched (map (λ w. (goal.Watcher-dyn g (w.vtable, w.value)).watch w.value) c.args.watchers.now.items) c.args.reports.now.items in
     let h1 = watched (map (λ w. (goal.Watcher-dyn g (w.vtable, w.value)).watch w.value) l.watchers.items) l.reports.items in
     serves_heard c.declared_variables_fit.ensures.runs c.args.declarations.now c.args.store.now l.store l.steps a b h h1 c.requires.serves i.code i.heard
@@ -196,8 +196,8 @@ pub step_telling-requires-clause-serves : goal.step_telling-requires-clause-serv
 step_telling-requires-clause-serves g c =
     let l = c.loop-steps in
     let i = l.invariant in
-    let a = moment c.args.store.now.core c.args.control.now (g.O.Sink.held c.args.out.now) (g.O.Sink.faults c.args.out.now) (g.I.Source.faults c.args.input.now) (g.I.Source.left c.args.input.now) c.args.store.now.bases in
-    let b = moment l.store.core l.control (g.O.Sink.held l.out) (g.O.Sink.faults l.out) (g.I.Source.faults l.input) (g.I.Source.left l.input) l.store.bases in
+    let a = moment c.args.store.now.core c.args.control.now (g.O.Sink.held c.args.out.now) (g.O.Sink.faults c.args.out.now) (g.I.Source.faults c.args.input.now) (g.I.Source.left c.args.input.now) c.args.store.now.bases (g.O.Sink.pieces c.args.out.now) in
+    let b = moment l.store.core l.control (g.O.Sink.held l.out) (g.O.Sink.faults l.out) (g.I.Source.faults l.input) (g.I.Source.left l.input) l.store.bases (g.O.Sink.pieces l.out) in
     let h = watched (map (λ w. (goal.Watcher-dyn g (w.vtable, w.value)).watch w.value) c.args.watchers.now.items) c.args.reports.now.items in
     let h1 = watched (map (λ w. (goal.Watcher-dyn g (w.vtable, w.value)).watch w.value) l.watchers.items) l.reports.items in
     serves_heard c.declared_variables_fit.ensures.runs c.args.declarations.now c.args.store.now l.store l.steps a b h h1 c.requires.serves i.code i.heard

@@ -10,8 +10,8 @@ use Rattle.setl_machine.proofs.watching.run_watched.Given as goal
 
 abbrev pub invariant-loop-steps : goal.invariant-loop-steps
 invariant-loop-steps g l =
-    let old = moment l.fn.store.core l.fn.control (g.O.Sink.held l.fn.out) (g.O.Sink.faults l.fn.out) (g.I.Source.faults l.fn.input) (g.I.Source.left l.fn.input) l.fn.store.bases in
-    let now = moment l.store.core l.control (g.O.Sink.held l.out) (g.O.Sink.faults l.out) (g.I.Source.faults l.input) (g.I.Source.left l.input) l.store.bases in
+    let old = moment l.fn.store.core l.fn.control (g.O.Sink.held l.fn.out) (g.O.Sink.faults l.fn.out) (g.I.Source.faults l.fn.input) (g.I.Source.left l.fn.input) l.fn.store.bases (g.O.Sink.pieces l.fn.out) in
+    let now = moment l.store.core l.control (g.O.Sink.held l.out) (g.O.Sink.faults l.out) (g.I.Source.faults l.input) (g.I.Source.left l.input) l.store.bases (g.O.Sink.pieces l.out) in
     let h = watched (map (λ w. (goal.Watcher-dyn g (w.vtable, w.value)).watch w.value) l.fn.watchers.items) l.fn.reports.items in
     let h' = watched (map (λ w. (goal.Watcher-dyn g (w.vtable, w.value)).watch w.value) l.watchers.items) l.reports.items in
     record {

@@ -21,8 +21,8 @@ run_watched-end-requires g c = record {
 pub put_dump-requires : goal.put_dump-requires
 put_dump-requires g c = λ own.
     let heard = map (λ w. (goal.Watcher-dyn g (w.vtable, w.value)).watch w.value) in
-    let s = streams (seen g.I.Source.left g.I.Source.calls g.I.Source.faults c.args.input.now) (seen g.O.Sink.held g.O.Sink.calls g.O.Sink.faults c.args.out.now) (watched (heard c.args.watchers.now.items) c.args.reports.now.items) in
-    let u = streams (seen g.I.Source.left g.I.Source.calls g.I.Source.faults c.run_watched-end.new.input) (seen g.O.Sink.held g.O.Sink.calls g.O.Sink.faults c.run_watched-end.new.out) (watched (heard c.run_watched-end.new.watchers.items) c.run_watched-end.new.reports.items) in
+    let s = streams (seen g.I.Source.left g.I.Source.calls g.I.Source.faults c.args.input.now) (seen g.O.Sink.held g.O.Sink.pieces g.O.Sink.faults c.args.out.now) (watched (heard c.args.watchers.now.items) c.args.reports.now.items) in
+    let u = streams (seen g.I.Source.left g.I.Source.calls g.I.Source.faults c.run_watched-end.new.input) (seen g.O.Sink.held g.O.Sink.pieces g.O.Sink.faults c.run_watched-end.new.out) (watched (heard c.run_watched-end.new.watchers.items) c.run_watched-end.new.reports.items) in
     let code = c.args.ready.now.code in
     let told = c.dumps-told.result in
     let count = cond told c.in-Some.bases 0 in
@@ -34,8 +34,8 @@ put_dump-requires g c = λ own.
 pub returns-then-not-told-clause-ran : goal.returns-then-not-told-clause-ran
 returns-then-not-told-clause-ran g c =
     let heard = map (λ w. (goal.Watcher-dyn g (w.vtable, w.value)).watch w.value) in
-    let s = streams (seen g.I.Source.left g.I.Source.calls g.I.Source.faults c.args.input.now) (seen g.O.Sink.held g.O.Sink.calls g.O.Sink.faults c.args.out.now) (watched (heard c.args.watchers.now.items) c.args.reports.now.items) in
-    let u = streams (seen g.I.Source.left g.I.Source.calls g.I.Source.faults c.run_watched-end.new.input) (seen g.O.Sink.held g.O.Sink.calls g.O.Sink.faults c.run_watched-end.new.out) (watched (heard c.run_watched-end.new.watchers.items) c.run_watched-end.new.reports.items) in
+    let s = streams (seen g.I.Source.left g.I.Source.calls g.I.Source.faults c.args.input.now) (seen g.O.Sink.held g.O.Sink.pieces g.O.Sink.faults c.args.out.now) (watched (heard c.args.watchers.now.items) c.args.reports.now.items) in
+    let u = streams (seen g.I.Source.left g.I.Source.calls g.I.Source.faults c.run_watched-end.new.input) (seen g.O.Sink.held g.O.Sink.pieces g.O.Sink.faults c.run_watched-end.new.out) (watched (heard c.run_watched-end.new.watchers.items) c.run_watched-end.new.reports.items) in
     let code = c.args.ready.now.code in
     let told = c.dumps-told.result in
     let count = cond told c.in-Some.bases 0 in
@@ -48,8 +48,8 @@ returns-then-not-told-clause-ran g c =
 pub returns-clause-ran : goal.returns-clause-ran
 returns-clause-ran g c =
     let heard = map (λ w. (goal.Watcher-dyn g (w.vtable, w.value)).watch w.value) in
-    let s = streams (seen g.I.Source.left g.I.Source.calls g.I.Source.faults c.args.input.now) (seen g.O.Sink.held g.O.Sink.calls g.O.Sink.faults c.args.out.now) (watched (heard c.args.watchers.now.items) c.args.reports.now.items) in
-    let u = streams (seen g.I.Source.left g.I.Source.calls g.I.Source.faults c.run_watched-end.new.input) (seen g.O.Sink.held g.O.Sink.calls g.O.Sink.faults c.run_watched-end.new.out) (watched (heard c.run_watched-end.new.watchers.items) c.run_watched-end.new.reports.items) in
+    let s = streams (seen g.I.Source.left g.I.Source.calls g.I.Source.faults c.args.input.now) (seen g.O.Sink.held g.O.Sink.pieces g.O.Sink.faults c.args.out.now) (watched (heard c.args.watchers.now.items) c.args.reports.now.items) in
+    let u = streams (seen g.I.Source.left g.I.Source.calls g.I.Source.faults c.run_watched-end.new.input) (seen g.O.Sink.held g.O.Sink.pieces g.O.Sink.faults c.run_watched-end.new.out) (watched (heard c.run_watched-end.new.watchers.items) c.run_watched-end.new.reports.items) in
     let v = streams u.input u.output (watched (heard c.run_watched-end.new.watchers.items) c.put_dump.new.reports.items) in
     let code = c.args.ready.now.code in
     let told = c.dumps-told.result in

@@ -36,10 +36,10 @@ returns g c =
     let modes = map plain_declared c.counted.result.now in
     let heard = watched (map (λ w. (goal.Watcher-dyn g (w.vtable, w.value)).watch w.value) c.run_ready.new.watchers.items) c.run_ready.new.reports.items in
     let input = seen g.I.Source.left g.I.Source.calls g.I.Source.faults c.args.input.now in
-    let output = seen g.O.Sink.held g.O.Sink.calls g.O.Sink.faults c.args.out.now in
-    let to = streams (seen g.I.Source.left g.I.Source.calls g.I.Source.faults c.run_ready.new.input) (seen g.O.Sink.held g.O.Sink.calls g.O.Sink.faults c.run_ready.new.out) heard in
+    let output = seen g.O.Sink.held g.O.Sink.pieces g.O.Sink.faults c.args.out.now in
+    let to = streams (seen g.I.Source.left g.I.Source.calls g.I.Source.faults c.run_ready.new.input) (seen g.O.Sink.held g.O.Sink.pieces g.O.Sink.faults c.run_ready.new.out) heard in
     let same : watched (map (λ w. (goal.Watcher-dyn g (w.vtable, w.value)).watch w.value) c.deref.result.now) c.run_ready.new.reports.items ≡ heard = ap (λ ws. watched (map (λ w. (goal.Watcher-dyn g (w.vtable, w.value)).watch w.value) ws) c.run_ready.new.reports.items) c.deref.ensures.value in
-    let told = tells_then modes (counted asked l.runnable) _ heard end (seen g.E.Sink.held g.E.Sink.calls g.E.Sink.faults c.args.err.now) (seen g.E.Sink.held g.E.Sink.calls g.E.Sink.faults c.load_ready.new.err) (seen g.E.Sink.held g.E.Sink.calls g.E.Sink.faults c.tell_end.new.err) c.tell_end.result (c.counted.ensures l.runnable l.is_ready.declared) same known.still.same c.tell_end.ensures.told in
+    let told = tells_then modes (counted asked l.runnable) _ heard end (seen g.E.Sink.held g.E.Sink.pieces g.E.Sink.faults c.args.err.now) (seen g.E.Sink.held g.E.Sink.pieces g.E.Sink.faults c.load_ready.new.err) (seen g.E.Sink.held g.E.Sink.pieces g.E.Sink.faults c.tell_end.new.err) c.tell_end.result (c.counted.ensures l.runnable l.is_ready.declared) same known.still.same c.tell_end.ensures.told in
     record {
       headline = λ words handed s there kept. run_ends words _ _ heard c.args.kind asked c.args.name.now ready s there l end (heard_from (λ x. Runs l.runnable asked x to end) input output _ _ _ kept c.new-reports.ensures.items ran) (loads words _ _ (Run c.args.kind asked c.args.name.now) c.args.name.now s refl there known.still.load) _ told;
       input = λ words handed s there kept. run_takes words _ _ heard c.args.kind asked c.args.name.now ready s there l (heard_from (λ x. TakesInput l.runnable asked x to) input output _ _ _ kept c.new-reports.ensures.items (c.run_ready.ensures.input l.runnable l.is_ready));

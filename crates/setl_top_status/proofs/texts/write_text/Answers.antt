@@ -1,9 +1,10 @@
 use Rattle.std.proofs.Common.{refl}
 use Rattle.setl_top_status.specs.code.Writes.{all_written, write_failed, write_starved}
+use Rattle.setl_top_status.proofs.Tried.{one_by}
 use Rattle.setl_top_status.proofs.texts.write_text.Goals as goal
 
 pub returns-in-Ok : goal.returns-in-Ok
-returns-in-Ok g c = all_written c.in-Ok.ensures.whole c.in-Ok.ensures.ok refl
+returns-in-Ok g c = all_written c.in-Ok.ensures.whole (one_by g.O.Sink.pieces _ _ _ c.in-Ok.ensures.uncalled c.in-Ok.ensures.piece) c.in-Ok.ensures.ok refl
 
 pub returns-in-Err-Failed : goal.returns-in-Err-Failed
 returns-in-Err-Failed g c =

@@ -2,7 +2,7 @@ use Rattle.std.proofs.Common.{◌∙◌, subst}
 use Rattle.setl_text.specs.code.Reads.{ahead, StaysHonest}
 use Rattle.setl_text.specs.code.Scans.{token_of, opens}
 use Rattle.setl_text.proofs.Decided.{open_ended}
-use Rattle.setl_text.proofs.Going.{went_still, took_then, honest_then, honest_still, went_found, went_wrong, went_onward, went_filled, went_unfilled, went_finished, went_on}
+use Rattle.setl_text.proofs.Going.{went_still, took_then, honest_then, went_found, went_wrong, went_onward, went_filled, went_unfilled, went_finished, went_on}
 use Rattle.setl_text.proofs.read.Reader.read.Goals as goal
 
 pub returns-in-Ok-Found-clause-answer : goal.returns-in-Ok-Found-clause-answer
