@@ -1,5 +1,5 @@
 -- Where `find` finds a member.
-use Rattle.std.proofs.Common.{◌≡◌, ℕ, zero, suc, eqb, eqb-true, eq-eqb, ◌+◌, Bool, true, false, cond, not, nat_lt, List, [], ◌∷◌, ◌++◌, length, position, slice_get, Option, Some, None, option_and_then, IsSome, refl, ap, sym, ◌∙◌, subst, arith, add-zero, true≢false}
+use Rattle.std.proofs.Common.{◌≡◌, ℕ, zero, suc, eqb, eqb-true, eq-eqb, ◌+◌, Bool, true, false, cond, not, nat_lt, List, [], ◌∷◌, ◌++◌, length, position, slice_get, Option, Some, None, option_and_then, IsSome, refl, ap, sym, ◌∙◌, subst, arith, add-zero}
 use Rattle.std.proofs.lemmas.Cmp.{eq_by_cmp_equiv}
 use Rattle.std.proofs.lemmas.Map.Keys.{IsDistinct-head, IsDistinct-tail}
 use Rattle.std.proofs.lemmas.Option.{slice_get-map}
@@ -14,7 +14,7 @@ use Rattle.setl_value.specs.Order.{datum_cmp}
 use Rattle.setl_value.specs.OrderLaws.{datum_cmp_total, same_if_eq}
 use Rattle.setl_base.specs.declared.Elt.{Elt}
 use Rattle.setl_base.specs.Base.{Member, BaseState, handle, find_from, find, member_at, value_in, value_of}
-use Rattle.setl_base.specs.Tables.{member_of, members_of}
+use Rattle.setl_base.specs.Table.{member_of, members_of}
 
 abbrev same : Datum → Datum → Bool
 same a b = is_eq (datum_cmp a b)
@@ -73,33 +73,6 @@ find_put d m (x ∷ xs) n = by (same d x.value) (find_put d m xs (n + 1))
     by false h =
         let number : n + 1 + length xs ≡ n + length (x ∷ xs) = omega arith in
         h ∙ (λ i. option_or (find_from (n + 1) xs d) (cond (same d m.value) (Some (handle (number i) m)) None))
-
-or_none : {A : Type 0} (o : Option A) → option_or o None ≡ o
-or_none None = refl
-or_none (Some x) = refl
-
--- a new member is found at the end, and the others where they were
-pub with_last : (ms : List Member) (m : Member) (d : Datum) → find_from 1 ms m.value ≡ None → cond (is_eq (datum_cmp m.value d)) (Some (handle (1 + length ms) m)) (find_from 1 ms d) ≡ find_from 1 (ms ++ m ∷ []) d
-with_last ms m d new = by (same m.value d) refl ∙ sym (find_put d m ms 1)
-  where
-    by : (b : Bool) → same m.value d ≡ b → cond b (Some (handle (1 + length ms) m)) (find_from 1 ms d) ≡ option_or (find_from 1 ms d) (cond (same d m.value) (Some (handle (1 + length ms) m)) None)
-    by true h =
-        let none : find_from 1 ms d ≡ None = ap (find_from 1 ms) (sym (same_if_eq m.value d h)) ∙ new in
-        let is : same d m.value ≡ true = same_back d m.value ∙ h in
-        λ i. option_or (sym none i) (cond (sym is i) (Some (handle (1 + length ms) m)) None)
-    by false h =
-        let isnt : same d m.value ≡ false = same_back d m.value ∙ h in
-        sym (or_none (find_from 1 ms d)) ∙ (λ i. option_or (find_from 1 ms d) (cond (sym isnt i) (Some (handle (1 + length ms) m)) None))
-
--- without the last member, which stands nowhere else
-pub without_last : (ms : List Member) (m : Member) (d : Datum) → find_from 1 ms m.value ≡ None → cond (is_eq (datum_cmp m.value d)) None (find_from 1 (ms ++ m ∷ []) d) ≡ find_from 1 ms d
-without_last ms m d new = by (same m.value d) refl
-  where
-    by : (b : Bool) → same m.value d ≡ b → cond b None (find_from 1 (ms ++ m ∷ []) d) ≡ find_from 1 ms d
-    by true h = sym (ap (find_from 1 ms) (sym (same_if_eq m.value d h)) ∙ new)
-    by false h =
-        let isnt : same d m.value ≡ false = same_back d m.value ∙ h in
-        find_put d m ms 1 ∙ ap (λ b. option_or (find_from 1 ms d) (cond b (Some (handle (1 + length ms) m)) None)) isnt ∙ or_none (find_from 1 ms d)
 
 -- ---- what is found
 
@@ -227,18 +200,6 @@ none_in_table d (e ∷ es) n p = by (same d (datum e.0)) p (none_in_table d es (
         → cond b (Some e.1) (lookup (λ (k : Value). same d (datum k)) es) ≡ None
     by true h rest = cc
     by false h rest = rest h
-
--- a member is found
-pub some_found : (d : Datum) (ms : List Member) (n i : ℕ) (m : Member) → slice_get ms i ≡ Some m → m.value ≡ d → find_from n ms d ≡ None → ⊥
-some_found d [] n i m p is none = cc
-some_found d (x ∷ xs) n i m p is none = by (same d x.value) refl none i p (λ j q r. some_found d xs (n + 1) j m q is r)
-  where
-    by : (b : Bool) → same d x.value ≡ b → cond b (Some (handle n x)) (find_from (n + 1) xs d) ≡ None → (i : ℕ) → slice_get (x ∷ xs) i ≡ Some m → ((j : ℕ) → slice_get xs j ≡ Some m → find_from (n + 1) xs d ≡ None → ⊥) → ⊥
-    by true h q i at rest = cc
-    by false h q zero at rest =
-        let here : x.value ≡ d = let y : x ≡ m = cc in ap (λ (k : Member). k.value) y ∙ is in
-        true≢false (sym (same_itself d) ∙ ap (same d) (sym here) ∙ h)
-    by false h q (suc j) at rest = rest j at q
 
 pub none_left : {A : Type 0} (o : Option A) → ((x : A) → o ≡ Some x → ⊥) → o ≡ None
 none_left None other = refl

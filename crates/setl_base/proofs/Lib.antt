@@ -1,6 +1,5 @@
 mod Places
 mod Found
+mod Least
 mod OverTime
-mod Ranked
 mod Tabled
-mod Ranking

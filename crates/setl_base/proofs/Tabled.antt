@@ -1,7 +1,6 @@
--- What the tables of a base say of it.
-use Rattle.std.proofs.Common.{◌≡◌, ℕ, ◌+◌, ◌<◌, ◌^◌, List, [], ◌∷◌, ◌++◌, length, slice_get, Some, None, cond, ap, sym, ◌∙◌, subst, arith, length-append, take, ⊎_elim}
+-- What the table of a base says of it.
+use Rattle.std.proofs.Common.{◌≡◌, ℕ, ◌+◌, ◌<◌, ◌^◌, List, [], ◌∷◌, ◌++◌, length, slice_get, Some, None, is_some, if◌then◌else◌, cond, ap, sym, ◌∙◌, subst, arith, length-append, take, ⊎_elim}
 use Rattle.std.proofs.lemmas.List.{length-map, take-map, map-append}
-use Rattle.std.specs.BTreeMap.{BTreeMap}
 use Rattle.std.specs.List.{IsDistinct}
 use Rattle.std.specs.Map.{keys_of}
 use Rattle.std.specs.Option.{option_or}
@@ -9,13 +8,12 @@ use Rattle.indexmap.specs.IndexMap.{IndexMap}
 use Rattle.setl_value.specs.declared.Value.{Value}
 use Rattle.setl_value.specs.code.DatumOf.{datum}
 use Rattle.setl_value.specs.WellFormed.{IsValue}
-use Rattle.setl_base.specs.declared.Elt.{Elt}
-use Rattle.setl_base.specs.Base.{Member, IsBase, handle, find, find_from, value_of, undone}
-use Rattle.setl_base.specs.Tables.{member_of, members_of, base_of, AreTables, AreRanks}
+use Rattle.setl_base.specs.Base.{Member, IsBase, handle, find, find_from, value_of, with_member, entered, undone}
+use Rattle.setl_base.specs.Table.{member_of, members_of, base_of, IsTable}
 use Rattle.setl_base.proofs.Found.{same_key, lives, member_entry, found_own, living_value, find_put, same_itself}
 use Rattle.setl_base.proofs.Places.{get_put}
 
-module _ {S : Type 0} (table : IndexMap Value ℕ S) (ranks : BTreeMap Value Elt) (cuts : ℕ) (h : AreTables table ranks cuts) where
+module _ {S : Type 0} (table : IndexMap Value ℕ S) (cuts : ℕ) (h : IsTable table cuts) where
   pub is_base : IsDistinct same_key (keys_of table.entries) → IsBase (base_of table cuts)
   is_base distinct = record {
     found = λ e d p.
@@ -38,14 +36,21 @@ module _ {S : Type 0} (table : IndexMap Value ℕ S) (ranks : BTreeMap Value Elt
     few = omega (arith, h.few, length-map table.entries member_of);
   }
 
--- the tables with one more member
-pub tables_put : {S : Type 0} (old new : IndexMap Value ℕ S) (ranks news : BTreeMap Value Elt) (cuts : ℕ) (v : Value) → AreTables old ranks cuts → new.entries ≡ old.entries ++ (v, cuts) ∷ [] → AreRanks new news → IsValue (datum v) → length old.entries < 2 ^ 63 → AreTables new news cuts
-tables_put old new ranks news cuts v h put ranked value few = record {
-  ranked = ranked;
+-- the table with one more member
+pub table_put : {S : Type 0} (old new : IndexMap Value ℕ S) (cuts : ℕ) (v : Value) → IsTable old cuts → new.entries ≡ old.entries ++ (v, cuts) ∷ [] → IsValue (datum v) → length old.entries < 2 ^ 63 → IsTable new cuts
+table_put old new cuts v h put value few = record {
   values = λ i e p. ⊎_elim (λ q. h.values i e q) (λ q. subst (λ (x : Value × ℕ). IsValue (datum x.0)) (sym q.1) value) (get_put old.entries (v, cuts) i e (ap (λ es. slice_get es i) (sym put) ∙ p));
   generations = λ i e p. ⊎_elim (λ q. h.generations i e q) (λ q. let is : e.1 ≡ cuts = ap (λ (x : Value × ℕ). x.1) q.1 in omega (arith, is)) (get_put old.entries (v, cuts) i e (ap (λ es. slice_get es i) (sym put) ∙ p));
   few = let n = ap length put ∙ length-append old.entries ((v, cuts) ∷ []) in omega (arith, n, few);
 }
+
+-- the base with one more member
+pub base_put : {S : Type 0} (old new : IndexMap Value ℕ S) (cuts : ℕ) (v : Value) → find (base_of old cuts) (datum v) ≡ None → new.entries ≡ old.entries ++ (v, cuts) ∷ [] → base_of new cuts ≡ entered (base_of old cuts) (datum v)
+base_put old new cuts v none put =
+    let b = base_of old cuts in
+    let members : members_of new.entries ≡ with_member b (datum v) = ap members_of put ∙ map-append member_of old.entries ((v, cuts) ∷ []) in
+    let entry : with_member b (datum v) ≡ (entered b (datum v)).members = ap (λ t. if t then b.members else with_member b (datum v)) (sym (ap is_some none)) in
+    λ i. record { members = (members ∙ entry) i; cuts = cuts }
 
 -- the new member is found at the end
 pub found_last : (es fs : List (Value × ℕ)) (v : Value) (g n : ℕ) → find_from 1 (members_of es) (datum v) ≡ None → fs ≡ es ++ (v, g) ∷ [] → n ≡ length es + 1 → find_from 1 (members_of fs) (datum v) ≡ Some (record { block = n; generation = g })

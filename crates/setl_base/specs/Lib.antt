@@ -1,4 +1,5 @@
 pub mod Base
 pub mod Later
+pub mod Least
 pub mod Rows
-pub mod Tables
+pub mod Table

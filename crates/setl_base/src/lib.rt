@@ -9,23 +9,18 @@
 //! and the number of cuts.
 #![tactic(auto)]
 
-ghost use Rattle.std.specs.Prelude.{◌≡◌, ◌<◌, ◌≤◌, ◌^◌, length, IfOk, OnOk, OnErr, IfSome, IfNone, Some};
+ghost use Rattle.std.specs.Prelude.{◌≡◌, ◌+◌, ◌<◌, ◌≤◌, ◌^◌, length, IfOk, OnOk, OnErr, IfSome, IfNone, Some};
 ghost use Rattle.std.specs.Option.{option_map, ForSome};
-ghost use Rattle.std.specs.Bound.{bound_map};
 ghost use Rattle.setl_value.specs.code.DatumOf.{datum};
-ghost use Rattle.setl_base.specs.Base.{IsBase, IsLiving, IsNext, IsLast, empty, entered, cut_back, undone, find, elt_at, member_at, value_of};
-ghost use Rattle.setl_base.specs.Tables.{StartsAbove};
+ghost use Rattle.setl_base.specs.Base.{IsBase, IsLiving, IsNext, IsLast, empty, entered, cut_back, undone, find, elt_at, member_at, value_of, is_above};
+ghost use Rattle.setl_base.specs.Least.{IsLeast, is_between};
 
 pub mod laws;
-mod tables;
 
 use indexmap::IndexMap;
 use setl_value::Value;
 use std::alloc::{AllocError, Global};
-use std::collections::BTreeMap;
 use std::marker::Model;
-use std::ops::Bound;
-use tables::{append, cut};
 
 /// A handle of an element block: its number, from 1, and its generation.
 #[derive(Clone, Copy, Debug, PartialEq, Eq)]
@@ -45,8 +40,6 @@ pub struct BaseMark {
 pub struct Base {
     // Each member with its generation, in the order of the block numbers.
     table: IndexMap<Value, u64>,
-    // The handle of each member, in the canonical order of the members.
-    ranks: BTreeMap<Value, Elt>,
     cuts: u64,
 }
 
@@ -57,11 +50,11 @@ impl Model for Base {
 
     ghost coded = { coded_base };
 
-    ghost use Rattle.setl_base.specs.Tables.{base_of, AreTables};
+    ghost use Rattle.setl_base.specs.Table.{base_of, IsTable};
 
     ghost view = { λ b. base_of b.table b.cuts };
 
-    ghost invariant = { λ b. AreTables b.table b.ranks b.cuts };
+    ghost invariant = { λ b. IsTable b.table b.cuts };
 }
 
 impl Base {
@@ -73,7 +66,6 @@ impl Base {
     {
         Ok(Base {
             table: IndexMap::with_capacity(alloc, 1)?,
-            ranks: BTreeMap::new(alloc),
             cuts: 0,
         })
     }
@@ -95,7 +87,7 @@ impl Base {
             block: self.table.len() as u64 + 1,
             generation: self.cuts,
         };
-        append(&mut self.table, &mut self.ranks, v, e)?;
+        self.table.insert(v, e.generation)?;
         Ok(e)
     }
 
@@ -164,30 +156,52 @@ impl Base {
         requires { m.now.count ≤ length self.old.members }
         ensures { self.new ≡ undone self.old m.now.count }
     {
-        cut(&mut self.table, &mut self.ranks, m.count as usize);
+        self.table.truncate(m.count as usize);
     }
 
     /// The block of the least member that is greater than that of `after` in the canonical order, or of the least member
     /// of all where `after` is None: None exactly where there is no such member. It takes no memory, and time that grows
-    /// with the logarithm of the number of members.
+    /// with the number of members, since it goes over all of them.
     pub fn rank_next(&self, after: Option<Elt>) -> Option<Elt>
         requires { ForSome after (IsLiving self.now) }
         ensures next { IfSome result (IsNext self.now after) }
         ensures last { IfNone result (IsLast self.now after) }
     {
-        let start = self.start_above(after);
-        let (_, next) = self.ranks.range((start, Bound::Unbounded)).next()?;
-        Some(*next)
+        let mut least = None;
+        for place in 0..self.table.len() {
+            least = self.lesser(after, least, place as u64 + 1);
+        }
+        least
     }
 
-    // Where the values above that of `after` start.
-    fn start_above(&self, after: Option<Elt>) -> Bound<&Value>
-        requires { ForSome after (IsLiving self.now) }
-        ensures { StartsAbove self.now after (bound_map (λ v. v.now) result) }
+    // The least member above `after` up to that block, where `least` is that of the blocks before it.
+    fn lesser(&self, after: Option<Elt>, least: Option<Elt>, block: u64) -> Option<Elt>
+        requires { IsLeast self.now after block least }
+        ensures { IsLeast self.now after (block + 1) result }
+    {
+        match self.member(block) {
+            Some((v, generation)) if self.is_between(after, v, least) => Some(Elt {
+                block,
+                generation,
+            }),
+            _ => least,
+        }
+    }
+
+    // Whether a value is greater than that of `after` and no greater than that of `least`, where these are not None.
+    fn is_between(&self, after: Option<Elt>, v: &Value, least: Option<Elt>) -> bool
+        ensures { result ≡ is_between self.now after (datum v.now) least }
+    {
+        self.is_above(after, v) && !(least.is_some() && self.is_above(least, v))
+    }
+
+    // Whether a value is greater than that of `after`, as each is where `after` is None.
+    fn is_above(&self, after: Option<Elt>, v: &Value) -> bool
+        ensures { result ≡ is_above self.now after (datum v.now) }
     {
         match after {
-            None => Bound::Unbounded,
-            Some(e) => Bound::Excluded(self.value(e).unwrap()),
+            None => true,
+            Some(e) => self.value(e).is_some_and(|x| x.compare(v).is_lt()),
         }
     }
 

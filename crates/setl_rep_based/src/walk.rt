@@ -10,7 +10,8 @@ use setl_base::{Base, Elt};
 use setl_rep_forms::laws;
 
 /// The least member of a set that is greater than the member `after`, or the least of all where `after` is None; None
-/// exactly where there is none. It goes over the members of the base in between, in the canonical order.
+/// exactly where there is none. It goes over the members of the base in between, in the canonical order, and each of
+/// these steps takes time that grows with the number of all members of the base.
 pub fn next_in(base: &Base, numbers: Numbers<'_>, after: Option<Elt>) -> Option<Elt>
     requires { ForSome after (IsLiving base.now) }
     ensures { IsStep base.now (numbers_in numbers.entry) after result }
