@@ -29,7 +29,7 @@ use Rattle.setl_rep_entering.proofs.Appended.{has_left, has_set, has_places_in}
 
 -- ---- one base
 
-nothing_more : (b : BaseState) → with_values b [] ≡ b
+pub nothing_more : (b : BaseState) → with_values b [] ≡ b
 nothing_more b = ap (λ l. record b { members = l }) (append-nil b.members)
 
 values_of_new : (ms : List Member) (g : ℕ) (ds : List Datum) → map (λ (m : Member). m.value) (ms ++ map (λ d. record { value = d; generation = g }) ds) ≡ map (λ (m : Member). m.value) ms ++ ds
@@ -72,7 +72,7 @@ all_members b ds h = ap (λ l. record b { members = b.members ++ map (λ d. reco
 names_itself : NamesAreExact → (bs : BasesState) (n b : ℕ) → is_named bs n (named bs n b) ≡ true
 names_itself exact bs n b = (exact (named bs n b) (named bs n (named bs n b).base)).1 (ap (named bs n) (sym (named_base bs n b)))
 
-places_named : NamesAreExact → (bs : BasesState) (n : ℕ) (m : Mode) (d : Datum) (b : ℕ) → places_in bs n m d (named bs n b) ≡ places_of b m d
+pub places_named : NamesAreExact → (bs : BasesState) (n : ℕ) (m : Mode) (d : Datum) (b : ℕ) → places_in bs n m d (named bs n b) ≡ places_of b m d
 places_named exact bs n m d b = ap (λ t. if t then places_of (named bs n b).base m d else []) (names_itself exact bs n b) ∙ ap (λ k. places_of k m d) (named_base bs n b)
 
 some_mapped : {A B : Type 0} (f : A → B) (o : Option A) → is_some (option_map f o) ≡ is_some o

@@ -8,3 +8,4 @@ pub mod Undoing
 pub mod Lengthened
 pub mod Taking
 pub mod NewPlaces
+pub mod Elements

@@ -1,7 +1,7 @@
 -- Bases gain by a value what they gain by the part of it that has all places that are no members yet.
-use Rattle.std.proofs.Common.{◌≡◌, ◌∙◌, ℕ, Bool, true, false, not, ◌&&◌, ◌⊎◌, inl, inr, List, [], ◌∷◌, ◌++◌, map, Option, None, Some, IsSome, refl, sym, ap, subst}
+use Rattle.std.proofs.Common.{◌≡◌, ◌∙◌, Bool, true, false, not, ◌&&◌, ◌⊎◌, inl, inr, List, ◌++◌, map, Option, None, Some, IsSome, refl, sym, ap, subst}
 use Rattle.std.proofs.Math.Bool.{and-false}
-use Rattle.std.proofs.lemmas.Bool.{false≢true, and_parts}
+use Rattle.std.proofs.lemmas.Bool.{false≢true}
 use Rattle.std.proofs.lemmas.List.Kept.{IsStrictlySortedBy-filter}
 use Rattle.std.specs.List.{filter}
 use Rattle.std.specs.Option.{option_map, option_map_or}
@@ -9,17 +9,16 @@ use Rattle.setl_value.specs.Datum.{Datum}
 use Rattle.setl_value.specs.Order.{datum_cmp}
 use Rattle.setl_set.specs.Sets.{has_datum}
 use Rattle.setl_set.specs.Laws.{RisingListsAgree, TestsMembership, Gathers}
-use Rattle.setl_modes.specs.Modes.{Mode}
 use Rattle.setl_modes_places.specs.Places.{elements_at}
-use Rattle.setl_base.specs.Base.{BaseState, empty, find}
+use Rattle.setl_base.specs.Base.{empty, find}
 use Rattle.setl_rep_bases.specs.declared.BaseId.{BaseId}
 use Rattle.setl_rep_bases.specs.declared.tables.Instance.{Instance}
-use Rattle.setl_rep_bases.specs.Bases.{BasesState, instance_at, base_at, named}
+use Rattle.setl_rep_bases.specs.Bases.{instance_at, base_at, named}
 use Rattle.setl_rep_bases.specs.Reading.{NamesAreExact}
-use Rattle.setl_rep_entering.specs.Entering.{values_in, with_values, lengthened_by, is_named, places_in, AreLengthened}
+use Rattle.setl_rep_entering.specs.Entering.{values_in, with_values, lengthened_by, is_named, places_in}
 use Rattle.setl_rep_entering.specs.Laws.{PartsLengthenAlike}
 use Rattle.setl_rep_entering.proofs.Entered.{found}
-use Rattle.setl_rep_entering.proofs.Appended.{same_truth, has_left, rising_same, has_places_in, places_rise}
+use Rattle.setl_rep_entering.proofs.Appended.{has_left, rising_same, has_places_in, places_rise}
 
 -- two tests that hold of the same but for members
 alike_but_members : (named part whole member : Bool) → (part ≡ true → whole ≡ true) → (named ≡ true → whole ≡ true → (part ≡ true) ⊎ (member ≡ true))

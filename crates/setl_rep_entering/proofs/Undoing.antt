@@ -82,11 +82,14 @@ pub record IsEntering (bs now : BasesState) (rest all : List Place) : Type 0 whe
   pub within : ChangeWithin all bs now
   pub from : (i : BaseId) → is_placed i rest ≡ true → is_placed i all ≡ true
 
+pub grown_first : (bs : BasesState) → AreGrown bs bs
+grown_first bs = record { count = refl; grown = λ i. grown_itself (instance_at bs i) }
+
 pub starts_entering : (bs : BasesState) (all : List Place) → ArePlacesThere bs all → IsEntering bs bs all all
 starts_entering bs all h = record {
   same = refl;
   there = h;
-  grown = record { count = refl; grown = λ i. grown_itself (instance_at bs i) };
+  grown = grown_first bs;
   within = λ i. inr refl;
   from = λ i e. e;
 }
@@ -103,11 +106,30 @@ module _ (put : InstancesArePut) (exact : NamesAreExact) where
   all_stay now i x [] h = tt
   all_stay now i x (p ∷ ps) h = (stay_there now i x p.base h.0, all_stay now i x ps h.1)
 
+  pub grown_entered : (bs now : BasesState) (j : BaseId) (d : Datum) → IsThere now j → AreGrown bs now → AreGrown bs (with_entered now j d)
+  grown_entered bs now j d there g = record { count = g.count; grown = λ i. by i (is_id i j) refl }
+    where
+      x : Instance
+      x = record { base = entered (base_at now j) d; gone = is_gone now j }
+
+      more : (o q : Option Instance) → IsSome q → IsGrown o q → IsGrown o (Some (record { base = entered (option_map_or (λ y. y.base) q empty) d; gone = option_map_or (λ y. y.gone) q false }))
+      more o None s g = absurd (false≢true s)
+      more o (Some y) s g = grown_more o y d g
+
+      at : (i : BaseId) (t : Bool) → is_id i j ≡ t → instance_at (with_instance now j x) i ≡ (if t then Some x else instance_at now i)
+      at i t h = put now j x i ∙ ap (λ b. if b then Some x else instance_at now i) h
+
+      by : (i : BaseId) (t : Bool) → is_id i j ≡ t → IsGrown (instance_at bs i) (instance_at (with_instance now j x) i)
+      by i true h =
+          let m = more (instance_at bs j) (instance_at now j) there (g.grown j) in
+          subst (IsGrown (instance_at bs i)) (sym (at i true h)) (subst (λ k. IsGrown (instance_at bs k) (Some x)) (sym ((exact i j).0 h)) m)
+      by i false h = subst (IsGrown (instance_at bs i)) (sym (at i false h)) (g.grown i)
+
   pub enters : (bs now : BasesState) (p : Place) (rest all : List Place) → IsEntering bs now (p ∷ rest) all → IsEntering bs (with_entered now p.base (datum p.value)) rest all
   enters bs now p rest all e = record {
     same = e.same;
     there = all_stay now p.base x rest e.there.1;
-    grown = record { count = e.grown.count; grown = λ i. grown i (is_id i p.base) refl };
+    grown = grown_entered bs now p.base (datum p.value) e.there.0 e.grown;
     within = λ i. within i (is_id i p.base) refl;
     from = λ i h. e.from i (or_right (is_id i p.base) (is_placed i rest) h);
   }
@@ -115,26 +137,13 @@ module _ (put : InstancesArePut) (exact : NamesAreExact) where
       x : Instance
       x = record { base = entered (base_at now p.base) (datum p.value); gone = is_gone now p.base }
 
-      more : (o q : Option Instance) → IsSome q → IsGrown o q → IsGrown o (Some (record { base = entered (option_map_or (λ y. y.base) q empty) (datum p.value); gone = option_map_or (λ y. y.gone) q false }))
-      more o None s g = absurd (false≢true s)
-      more o (Some y) s g = grown_more o y (datum p.value) g
-
-      at : (i : BaseId) (t : Bool) → is_id i p.base ≡ t → instance_at (with_instance now p.base x) i ≡ (if t then Some x else instance_at now i)
-      at i t h = put now p.base x i ∙ ap (λ b. if b then Some x else instance_at now i) h
-
-      grown : (i : BaseId) (t : Bool) → is_id i p.base ≡ t → IsGrown (instance_at bs i) (instance_at (with_instance now p.base x) i)
-      grown i true h =
-          let g = more (instance_at bs p.base) (instance_at now p.base) e.there.0 (e.grown.grown p.base) in
-          subst (IsGrown (instance_at bs i)) (sym (at i true h)) (subst (λ j. IsGrown (instance_at bs j) (Some x)) (sym ((exact i p.base).0 h)) g)
-      grown i false h = subst (IsGrown (instance_at bs i)) (sym (at i false h)) (e.grown.grown i)
-
       within : (i : BaseId) (t : Bool) → is_id i p.base ≡ t → (is_placed i all ≡ true) ⊎ (instance_at (with_instance now p.base x) i ≡ instance_at bs i)
       within i true h = inl (e.from i (or_left (is_id i p.base) (is_placed i rest) h))
       within i false h = changed (e.within i)
         where
           changed : (is_placed i all ≡ true) ⊎ (instance_at now i ≡ instance_at bs i) → (is_placed i all ≡ true) ⊎ (instance_at (with_instance now p.base x) i ≡ instance_at bs i)
           changed (inl q) = inl q
-          changed (inr q) = inr (at i false h ∙ q)
+          changed (inr q) = inr (put now p.base x i ∙ ap (λ b. if b then Some x else instance_at now i) h ∙ q)
 
   -- ---- marks that are cut to
 

@@ -1,12 +1,12 @@
 -- What is so of bases that were lengthened by the places of a value.
-use Rattle.std.specs.Prelude.{◌≡◌, ◌⊎◌, ℕ, true, false, IsSome}
+use Rattle.std.specs.Prelude.{◌≡◌, ◌⊎◌, ◌≤◌, ℕ, true, false, length, IsSome}
 use Rattle.setl_value.specs.Datum.{Datum}
 use Rattle.setl_set.specs.Sets.{has_datum}
-use Rattle.setl_modes.specs.Modes.{Mode}
+use Rattle.setl_modes.specs.Modes.{Mode, Elements}
 use Rattle.setl_modes_places.specs.Places.{elements_at, names, places_of, lengthened}
 use Rattle.setl_base.specs.Base.{find}
 use Rattle.setl_rep_bases.specs.declared.BaseId.{BaseId}
-use Rattle.setl_rep_bases.specs.Bases.{BasesState, base_at, instance_at, named}
+use Rattle.setl_rep_bases.specs.Bases.{BasesState, base_at, instance_at, named, with_entered, with_undone, IsThere}
 use Rattle.setl_rep_bases.specs.Keeping.{AreKept}
 use Rattle.setl_rep_entering.specs.Entering.{values_in, is_named, AreLengthened, BasesAreThere}
 
@@ -53,3 +53,14 @@ PartsLengthenAlike =
     (m k : Mode) (d e : Datum) (n : ℕ) (bs cs : BasesState) → ((b : ℕ) (x : Datum) → has_datum x (elements_at b k e) ≡ true → has_datum x (elements_at b m d) ≡ true)
     → ((b : ℕ) (x : Datum) → has_datum x (elements_at b m d) ≡ true → (has_datum x (elements_at b k e) ≡ true) ⊎ IsSome (find (base_at bs (named bs n b)) x))
     → AreLengthened k e n bs cs → AreLengthened m d n bs cs
+
+-- a value that is entered into the base of its mode lengthens the bases by itself
+abbrev pub ElementsAreEntered : Type 0
+ElementsAreEntered =
+    (m : Mode) (d : Datum) (n b : ℕ) (bs : BasesState) → IsThere bs (named bs n b) → AreLengthened (Elements b m) d n bs (with_entered bs (named bs n b) d)
+
+-- a cut to the members that were there takes back what was entered
+abbrev pub EnteredIsUndone : Type 0
+EnteredIsUndone =
+    (d : Datum) (bs : BasesState) (i : BaseId) → IsThere bs i
+    → (length (base_at bs i).members ≤ length (base_at (with_entered bs i d) i).members) × (with_undone (with_entered bs i d) i (length (base_at bs i).members) ≡ bs)

@@ -5,9 +5,9 @@ ghost use Rattle.setl_rep_bases.specs.declared.BaseId.{BaseId};
 ghost use Rattle.setl_value.specs.Datum.{Datum};
 ghost use Rattle.setl_value.specs.code.DatumOf.{datum};
 ghost use Rattle.setl_modes.specs.Fits.{datum_fits};
-ghost use Rattle.setl_modes.specs.Modes.{Mode as ModeState, mode_of};
+ghost use Rattle.setl_modes.specs.Modes.{Mode as ModeState, Elements, mode_of};
 ghost use Rattle.setl_modes_places.specs.Places.{names};
-ghost use Rattle.setl_rep_bases.specs.Bases.{BasesState};
+ghost use Rattle.setl_rep_bases.specs.Bases.{named, BasesState, IsThere};
 ghost use Rattle.setl_rep_entering.specs.Entering.{is_named, AreLengthened, BasesAreThere};
 ghost use Rattle.setl_rep_entering.specs.code.Growing.{all_placed, all_undone, is_marked, AreGrown, AreMarked, AreMarks, AreMarksOf, ArePlacesThere, ChangeWithin};
 
@@ -37,6 +37,36 @@ pub fn enter_places(
     bases: &mut Bases,
 ) -> Result<(), AllocError>
     requires fits { datum_fits (mode_of mode.now) (datum v.now) ≡ true }
+    requires there { BasesAreThere bases.old instance (mode_of mode.now) }
+    ensures lengthened { OnOk result (AreLengthened (mode_of mode.now) (datum v.now) instance bases.old bases.new) }
+    ensures refused { OnErr result (bases.new ≡ bases.old) }
+{
+    match mode {
+        Mode::Elmt(b, _) => enter_element(*b, v, instance, bases),
+        _ => enter_all(alloc, mode, v, instance, bases),
+    }
+}
+
+// The same for an element of the base `b`, whose one place is itself.
+fn enter_element(b: u32, v: &Value, instance: u64, bases: &mut Bases) -> Result<(), AllocError>
+    requires there { IsThere bases.old (named bases.old instance b) }
+    ensures lengthened { (m : ModeState) → OnOk result (AreLengthened (Elements b m) (datum v.now) instance bases.old bases.new) }
+    ensures refused { OnErr result (bases.new ≡ bases.old) }
+{
+    crate::laws::elements_are_entered();
+    let base = bases.named(instance, b);
+    bases.enter(base, v.copy()?)?;
+    Ok(())
+}
+
+// The same for a value of any mode.
+fn enter_all(
+    alloc: Global,
+    mode: &Mode,
+    v: &Value,
+    instance: u64,
+    bases: &mut Bases,
+) -> Result<(), AllocError>
     requires there { BasesAreThere bases.old instance (mode_of mode.now) }
     ensures lengthened { OnOk result (AreLengthened (mode_of mode.now) (datum v.now) instance bases.old bases.new) }
     ensures refused { OnErr result (bases.new ≡ bases.old) }

@@ -1,7 +1,7 @@
 //! Laws of bases that were lengthened by the places of a value. The functions have no effect: each hands a proof the laws
 //! that it is named for.
 
-ghost use Rattle.setl_rep_entering.specs.Laws.{MembersAreLengthened, OthersStay, NamesStay, PlacesAreMembers, BlocksAreKept, MembersChangeNothing, MembersLengthenNothing, PartsLengthenAlike};
+ghost use Rattle.setl_rep_entering.specs.Laws.{MembersAreLengthened, OthersStay, NamesStay, PlacesAreMembers, BlocksAreKept, MembersChangeNothing, MembersLengthenNothing, PartsLengthenAlike, ElementsAreEntered, EnteredIsUndone};
 
 /// Each base that the mode names has the values at its places behind its members, and all others are as before.
 pub fn bases_are_lengthened()
@@ -33,5 +33,14 @@ pub fn parts_lengthen_alike()
     setl_set::laws::rising_lists_agree();
     setl_set::laws::tests_are_exact();
     setl_set::laws::operations_have_their_members();
+    setl_rep_bases::laws::instances_are_read();
+}
+
+/// A value that is entered into the base of its mode lengthens the bases by itself, and a cut to the members that were there
+/// takes it back.
+pub fn elements_are_entered()
+    ensures entered { ElementsAreEntered }
+    ensures undone { EnteredIsUndone }
+{
     setl_rep_bases::laws::instances_are_read();
 }

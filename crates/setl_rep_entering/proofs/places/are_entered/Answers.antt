@@ -1,4 +1,4 @@
-use Rattle.std.proofs.Common.{◌∙◌, [], length, sym, ap, subst, eq-eqb, eqb-true}
+use Rattle.std.proofs.Common.{◌∙◌, length, sym, ap, subst, eq-eqb, eqb-true}
 use Rattle.std.proofs.lemmas.List.{nil_from_length}
 use Rattle.setl_value.specs.code.DatumOf.{datum}
 use Rattle.setl_modes.specs.Modes.{mode_of}

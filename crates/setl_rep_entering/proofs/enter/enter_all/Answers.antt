@@ -8,7 +8,7 @@ use Rattle.setl_rep_entering.specs.code.Finding.{place_cmp}
 use Rattle.setl_rep_entering.proofs.Appended.{are_lengthened, places_there, places_marked, values_rise}
 use Rattle.setl_rep_entering.proofs.Lengthened.{none_new_is_found, members_lengthen_nothing}
 use Rattle.setl_rep_entering.proofs.Sorting.{goes_by_value}
-use Rattle.setl_rep_entering.proofs.enter.enter_places.Goals as goal
+use Rattle.setl_rep_entering.proofs.enter.enter_all.Goals as goal
 
 pub enter_or_undo-requires-clause-there : goal.enter_or_undo-requires-clause-there
 enter_or_undo-requires-clause-there c =
