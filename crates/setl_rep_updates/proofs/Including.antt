@@ -1,5 +1,5 @@
 -- A value comes into a set of elements.
-use Rattle.std.proofs.Common.{eq-eqb, ◌≡◌, ◌∙◌, ℕ, ◌≤◌, Bool, true, false, ◌&&◌, ◌||◌, ◌==◌, ◌⊎◌, inl, inr, cond, List, [], ◌∷◌, Option, None, Some, IsSome, Result, Ok, IfOk, refl, sym, ap, subst, arith}
+use Rattle.std.proofs.Common.{eq-eqb, ◌≡◌, ◌∙◌, eqb-true, ℕ, suc, ◌+◌, ◌≤◌, Bool, true, false, ◌&&◌, ◌||◌, ◌==◌, ◌⊎◌, inl, inr, cond, List, [], ◌∷◌, slice_get, Option, None, Some, IsSome, Result, Ok, IfOk, refl, sym, ap, subst, arith}
 use Rattle.std.specs.Bool.{nat_le, nat_lt, if◌then◌else◌}
 use Rattle.std.specs.List.{flat_map, filter_map, list_all}
 use Rattle.std.specs.Option.{is_some, option_and_then}
@@ -24,16 +24,16 @@ use Rattle.setl_operators_table.specs.declared.Operator.TheVariants.{With}
 use Rattle.setl_operators_table.specs.Outcome.{Outcome, Gives, Fails, DeepFault, value, within_depth}
 use Rattle.setl_operators_table.specs.Operators.{op_of}
 use Rattle.setl_base.specs.declared.Elt.{Elt}
-use Rattle.setl_base.specs.Base.{BaseState, find, value_of}
+use Rattle.setl_base.specs.Base.{BaseState, Member, find, find_from, handle, member_at, value_in, value_of}
 use Rattle.setl_rep_bases.specs.declared.BaseId.{BaseId}
-use Rattle.setl_rep_bases.specs.Bases.{BasesState, base_at, named}
+use Rattle.setl_rep_bases.specs.Bases.{BasesState, base_at, named, with_entered, IsThere}
 use Rattle.setl_rep_forms.specs.Form.{Form, Layout, om, plain, element, numbers, table, handles}
 use Rattle.setl_rep_forms.specs.Stands.{stands, members_at, value_at, IsOver}
 use Rattle.setl_rep_forms.specs.Laws.{FormsStay}
 use Rattle.setl_rep_kernels.specs.Kernels.{is_numbered, has_change, ChangeTells, IsAlike}
 use Rattle.setl_rep_building.specs.HasForm.{base_of, place_of, IsSetForm, HasFormOrOm}
-use Rattle.setl_rep_entering.specs.Entering.{AreLengthened, BasesAreThere}
-use Rattle.setl_rep_entering.specs.Laws.{NamesStay, PlacesAreFound, PlacesAreMembers, PartsLengthenAlike, BlocksAreKept}
+use Rattle.setl_rep_entering.specs.Entering.{AreLengthened}
+use Rattle.setl_rep_entering.specs.Laws.{PlacesAreFound, PlacesAreMembers, PartsLengthenAlike, BlocksAreKept, MembersLengthenNothing, ElementsAreEntered}
 use Rattle.setl_rep_updates.specs.InForm.{IsValueOrOm, ArePlacesFound, IsInForm, FormsOfModesStay}
 use Rattle.setl_rep_updates.specs.Updates.{IsUpdate}
 use Rattle.setl_rep_updates.specs.code.Entered.{HasNumbersOf, IsElementOn, IsPutIn}
@@ -258,39 +258,80 @@ module _ (gathers : Gathers) (forms_stay : FormsStay) (kept : BlocksAreKept) (me
 tells : (r : Result Bool OpFault) (t : Bool) (o : ℕ → Outcome) (v : Option Datum) → r ≡ Ok t → t ≡ true → ((left : ℕ) → ChangeTells r (o left) v) → (left : ℕ) → o left ≡ Gives v 0
 tells r t o v e q h left = subst (λ z. ChangeTells (Ok z) (o left) v) q (subst (λ z. ChangeTells z (o left) v) e (h left))
 
-pub member_is_put : (bs : BasesState) (b : BaseId) (e : Elt) (d : Datum) (f g x : Form) (r : Result Bool OpFault) (t : Bool) (base : BaseState) → base ≡ base_at bs b → HasNumbersOf b f → x ≡ element b e → value_of base e ≡ Some d → IsSome (find (base_at bs b) d) → r ≡ Ok t
+-- a handle that is found names the value
+found_at : (n : ℕ) (ms : List Member) (d : Datum) (e : Elt) → find_from n ms d ≡ Some e → (i : ℕ) × (e.block ≡ n + i) × (option_and_then (value_in e.generation) (slice_get ms i) ≡ Some d)
+found_at n [] d e h = let no : ⊥ = cc in absurd no
+found_at n (m ∷ ms) d e h = by (is_eq (datum_cmp d m.value)) refl h (found_at (n + 1) ms d e)
+  where
+    At : Elt → Type 0
+    At e = (i : ℕ) × (e.block ≡ n + i) × (option_and_then (value_in e.generation) (slice_get (m ∷ ms) i) ≡ Some d)
+
+    by : (t : Bool) → is_eq (datum_cmp d m.value) ≡ t → (if t then Some (handle n m) else find_from (n + 1) ms d) ≡ Some e
+        → (find_from (n + 1) ms d ≡ Some e → (i : ℕ) × (e.block ≡ (n + 1) + i) × (option_and_then (value_in e.generation) (slice_get ms i) ≡ Some d)) → At e
+    by true p h rest =
+        let is : handle n m ≡ e = cc in
+        subst At is (0, omega arith, ap (λ t. if t then Some m.value else None) (eq-eqb m.generation m.generation refl) ∙ ap Some (sym (same_if_eq d m.value p)))
+    by false p h rest = let r = rest h in (suc r.0, omega (arith, r.1), r.2)
+
+found_value : (b : BaseState) (d : Datum) (e : Elt) → find b d ≡ Some e → value_of b e ≡ Some d
+found_value b d e h = let r = found_at 1 b.members d e h in ap (λ k. option_and_then (value_in e.generation) (member_at b k)) (r.1 ∙ one_more r.0) ∙ r.2
+  where
+    one_more : (i : ℕ) → 1 + i ≡ suc i
+    one_more i = omega arith
+
+pub living : (bs : BasesState) (b : BaseId) (e : Elt) (x : Form) → x ≡ element b e → IsThere bs b → (d : Datum) × (find (base_at bs b) d ≡ Some e) → IsOver bs x
+living bs b e x is there f = subst (IsOver bs) (sym is) (there, ap is_some (found_value (base_at bs b) f.0 e f.1))
+
+pub numbers_there : (bs : BasesState) (b : BaseId) (f : Form) → HasNumbersOf b f → IsOver bs f → IsThere bs b
+numbers_there bs b f has over = (subst (IsOver bs) has.is over).0
+
+pub member_is_put : (bs : BasesState) (b : BaseId) (e : Elt) (d : Datum) (f g x : Form) (r : Result Bool OpFault) (t : Bool) → HasNumbersOf b f → x ≡ element b e → find (base_at bs b) d ≡ Some e → r ≡ Ok t
     → IfOk r (λ u. u ≡ has_change bs true f x) → ((left : ℕ) → ChangeTells r (op_of With (stands bs f ∷ stands bs x ∷ []) left) (stands bs g)) → (left : ℕ) → op_of With (stands bs f ∷ Some d ∷ []) left ≡ Gives (stands bs g) 0
-member_is_put bs b e d f g x r t base at has is_element given found is_ok kernel h left =
-    ap (λ v. op_of With (stands bs f ∷ v ∷ []) left) (sym stood)
+member_is_put bs b e d f g x r t has is_element found is_ok kernel h left =
+    ap (λ v. op_of With (stands bs f ∷ v ∷ []) left) (sym (ap (stands bs) is_element ∙ value))
     ∙ tells r t (λ n. op_of With (stands bs f ∷ stands bs x ∷ []) n) (stands bs g) is_ok made h left
   where
     value : value_of (base_at bs b) e ≡ Some d
-    value = subst (λ z. value_of z e ≡ Some d) at given
-
-    stood : stands bs x ≡ Some d
-    stood = ap (stands bs) is_element ∙ value
+    value = found_value (base_at bs b) d e found
 
     made : t ≡ true
     made =
         subst (λ z. IfOk z (λ u. u ≡ has_change bs true f x)) is_ok kernel
         ∙ (λ i. has_change bs true (has.is i) (is_element i))
         ∙ ap (λ v. is_some (option_and_then (find (base_at bs b)) v)) value
-        ∙ found
+        ∙ ap is_some found
 
 -- ---- a member that is entered
 
-pub entered_is_found : NamesStay → PlacesAreMembers → (m : Mode) (d : Datum) (n : ℕ) (bs cs : BasesState) (b : BaseId) → IsElementOn (named bs n) b m → BasesAreThere bs n m → AreLengthened m d n bs cs → IsSome (find (base_at cs b) d)
-entered_is_found names members m d n bs cs b on there l =
-    subst (λ i. IsSome (find (base_at cs i) d)) (names m d n bs cs l n on.0 ∙ sym on.3)
-    ((members m d n bs cs there l).1 on.0 d (ap (λ k. has_datum d (elements_at on.0 k d)) on.2 ∙ at_own_place on.0))
-  where
-    at_own_place : (c : ℕ) → has_datum d (elements_at c (Elements c on.1) d) ≡ true
-    at_own_place c = ap (λ t. has_datum d (cond t (d ∷ []) [])) (eq-eqb c c refl) ∙ or_left _ _ (itself d)
+-- the one place of an element is found where it is
+pub element_is_found : (m : Mode) (d : Datum) (n : ℕ) (bs : BasesState) (b : BaseId) (e : Elt) → IsElementOn (named bs n) b m → find (base_at bs b) d ≡ Some e → PlacesAreFound bs n m d
+element_is_found m d n bs b e on found i x at =
+    let q = has_element (on.0 == i) x d (sym (ap (λ k. has_datum x (elements_at i k d)) on.2) ∙ at) in
+    subst (λ z. IsSome (find (base_at bs (named bs n i)) z)) (sym q.1) (subst (λ j. IsSome (find (base_at bs j) d)) (on.3 ∙ ap (named bs n) (eqb-true on.0 i q.0)) (ap is_some found))
+
+pub member_in : MembersLengthenNothing → (m : Mode) (n : ℕ) (d : Datum) (bs : BasesState) (b : BaseId) (e : Elt) (f g : Form) → IsElementOn (named bs n) b m → find (base_at bs b) d ≡ Some e
+    → ((left : ℕ) → op_of With (stands bs f ∷ Some d ∷ []) left ≡ Gives (stands bs g) 0) → IsOver bs g → part_depth (stands bs g) ≤ 500 → IsAlike f g → IsPutIn m n d bs bs f g
+member_in already m n d bs b e f g on found value over shallow alike = record {
+  lengthened = already m d n bs (element_is_found m d n bs b e on found);
+  value = value;
+  over = over;
+  shallow = shallow;
+  alike = alike;
+}
+
+-- an element that is entered
+pub element_in : ElementsAreEntered → (m : Mode) (n : ℕ) (d : Datum) (bs : BasesState) (b : BaseId) → IsThere bs b → IsElementOn (named bs n) b m → AreLengthened m d n bs (with_entered bs b d)
+element_in entered m n d bs b there on =
+    subst (λ k. AreLengthened k d n bs (with_entered bs b d)) (sym on.2)
+    (subst (λ j. AreLengthened (Elements on.0 on.1) d n bs (with_entered bs j d)) (sym on.3) (entered on.1 d n on.0 bs (subst (IsThere bs) on.3 there)))
 
 pub stays_over : FormsStay → BlocksAreKept → (m : Mode) (d : Datum) (n : ℕ) (bs cs : BasesState) (f : Form) → AreLengthened m d n bs cs → IsOver bs f → IsOver cs f × (stands cs f ≡ stands bs f)
 stays_over forms_stay kept m d n bs cs f l over = forms_stay bs cs f (kept m d n bs cs l) over
 
 -- ---- a set of members of a mode
+
+pub element_on : (name : ℕ → BaseId) (i : BaseId) (m : Mode) (c : ℕ) → base_of m ≡ Some c → i ≡ name c → IsElementOn name i m
+element_on name i m c e is = let k = element_mode m c e in (c, k.0, k.1, is)
 
 -- what the test of a set and a value tells
 abbrev Taken : Mode → Form → Datum → Bool → Type 0

@@ -1,7 +1,7 @@
 //! A value comes into a set, or goes out of it.
 
-ghost use Rattle.std.specs.Prelude.{◌≡◌, ◌≤◌, ℕ, nat_lt, ◌&&◌, true, IfOk, OnOk, OnErr, Some, IsSome, [], ◌∷◌};
-ghost use Rattle.setl_value.specs.Datum.{depth, part_depth};
+ghost use Rattle.std.specs.Prelude.{◌≡◌, ◌≤◌, ℕ, nat_lt, ◌&&◌, IfOk, OnOk, OnErr, Some, [], ◌∷◌};
+ghost use Rattle.setl_value.specs.Datum.{Datum, depth, part_depth};
 ghost use Rattle.setl_value.specs.code.DatumOf.{datum};
 ghost use Rattle.setl_modes.specs.Fits.{datum_fits};
 ghost use Rattle.setl_modes.specs.declared.mode.Form.{Form as Attribute};
@@ -13,22 +13,20 @@ ghost use Rattle.setl_base.specs.Base.{find};
 ghost use Rattle.setl_rep_bases.specs.Bases.{base_at, named};
 ghost use Rattle.setl_rep_forms.specs.FormOf.{form};
 ghost use Rattle.setl_rep_forms.specs.Stands.{stands, IsOver};
-ghost use Rattle.setl_rep_entering.specs.Entering.{BasesAreThere};
 ghost use Rattle.setl_rep_kernels.specs.Kernels.{is_numbered, IsAlike};
 ghost use Rattle.setl_rep_building.specs.HasForm.{base_of};
 ghost use Rattle.setl_rep_updates.specs.InForm.{IsInForm};
 ghost use Rattle.setl_rep_updates.specs.Updates.{includes, includes_one, IsUpdate};
 ghost use Rattle.setl_rep_updates.specs.code.Entered.{HasNumbersOf, IsElementOn, IsPutIn};
 
+use setl_base::Elt;
 use setl_modes::Mode;
 use setl_modes_fit::fits;
-use setl_rep_based::handle;
 use setl_rep_bases::{BaseId, Bases};
-use setl_rep_entering::{are_entered, base_marks, enter_places, take_back};
 use setl_rep_forms::Held;
 use setl_rep_kernels::change;
 use setl_value::Value;
-use std::alloc::{AllocError, Global};
+use std::alloc::AllocError;
 
 /// `s with x`, in place: a set on a base that is held as numbers takes a value in, which is entered into its base first.
 ///
@@ -36,7 +34,6 @@ use std::alloc::{AllocError, Global};
 /// and after want of memory, which is the error, the set and the bases are as before. Nothing is charged. Where nobody else
 /// holds the set, the cost is near linear in the size of `x` alone.
 pub fn include(
-    alloc: Global,
     mode: &Mode,
     s: &mut Held,
     x: &Value,
@@ -48,14 +45,13 @@ pub fn include(
     ensures update { IsUpdate (mode_of mode.now) instance (op_of With (stands bases.old (form s.old) ∷ Some (datum x.now) ∷ [])) bases.old bases.new (form s.old) (form s.new) result }
 {
     match mode {
-        Mode::Set(_, m) => include_in(alloc, m.get(), s, x, bases, instance),
+        Mode::Set(_, m) => include_in(m.get(), s, x, bases, instance),
         _ => Ok(false),
     }
 }
 
 // The same for a set of members of this mode.
 fn include_in(
-    alloc: Global,
     m: &Mode,
     s: &mut Held,
     x: &Value,
@@ -79,7 +75,7 @@ fn include_in(
     }
     x.learn();
     let i = bases.named(instance, b);
-    put_in(alloc, m, i, s, x, bases, instance)?;
+    put_in(i, s, x, bases)?;
     Ok(true)
 }
 
@@ -113,82 +109,58 @@ fn is_numbered(s: &Held) -> bool
     }
 }
 
-// Enters a value into its base, where it is no member yet, and puts it into a set of numbers of that base. After an error, which
-// is want of memory, the bases and the set are as before.
-fn put_in(
-    alloc: Global,
-    m: &Mode,
-    b: BaseId,
-    s: &mut Held,
-    x: &Value,
-    bases: &mut Bases,
-    instance: u64,
-) -> Result<(), AllocError>
-    requires element { IsElementOn (named bases.old instance) b (mode_of m.now) }
-    requires there { BasesAreThere bases.old instance (mode_of m.now) }
-    requires fits { datum_fits (mode_of m.now) (datum x.now) ≡ true }
+// Enters a value into a base, where it is no member yet, and puts it into a set of numbers of that base. After an error, which is
+// want of memory, the bases and the set are as before.
+fn put_in(b: BaseId, s: &mut Held, x: &Value, bases: &mut Bases) -> Result<(), AllocError>
     requires numbers { HasNumbersOf b (form s.old) }
     requires over { IsOver bases.old (form s.old) }
     requires shallow { part_depth (stands bases.old (form s.old)) ≤ 500 }
-    ensures put { OnOk result (IsPutIn (mode_of m.now) instance (datum x.now) bases.old bases.new (form s.old) (form s.new)) }
+    ensures put { OnOk result ((m : ModeState) (n : ℕ) → IsElementOn (named bases.old n) b m → IsPutIn m n (datum x.now) bases.old bases.new (form s.old) (form s.new)) }
     ensures refused { OnErr result ((bases.new ≡ bases.old) × (form s.new ≡ form s.old)) }
 {
     setl_rep_entering::laws::places_are_members();
-    setl_rep_entering::laws::bases_are_lengthened();
-    if are_entered(alloc, m, x, instance, bases)? {
-        return put_member(s, b, x, bases);
+    if let Some(e) = bases.at(b).find(x) {
+        return put_member(s, b, e, bases);
     }
-    enter_and_put(alloc, m, b, s, x, bases, instance)
+    enter_and_put(b, s, x, bases)
 }
 
-// The same, where it may be no member yet.
-fn enter_and_put(
-    alloc: Global,
-    m: &Mode,
-    b: BaseId,
-    s: &mut Held,
-    x: &Value,
-    bases: &mut Bases,
-    instance: u64,
-) -> Result<(), AllocError>
-    requires element { IsElementOn (named bases.old instance) b (mode_of m.now) }
-    requires there { BasesAreThere bases.old instance (mode_of m.now) }
-    requires fits { datum_fits (mode_of m.now) (datum x.now) ≡ true }
+// The same for a value that may be no member yet.
+fn enter_and_put(b: BaseId, s: &mut Held, x: &Value, bases: &mut Bases) -> Result<(), AllocError>
     requires numbers { HasNumbersOf b (form s.old) }
     requires over { IsOver bases.old (form s.old) }
     requires shallow { part_depth (stands bases.old (form s.old)) ≤ 500 }
-    ensures put { OnOk result (IsPutIn (mode_of m.now) instance (datum x.now) bases.old bases.new (form s.old) (form s.new)) }
+    ensures put { OnOk result ((m : ModeState) (n : ℕ) → IsElementOn (named bases.old n) b m → IsPutIn m n (datum x.now) bases.old bases.new (form s.old) (form s.new)) }
     ensures refused { OnErr result ((bases.new ≡ bases.old) × (form s.new ≡ form s.old)) }
 {
     setl_rep_forms::laws::forms_stay();
-    setl_rep_entering::laws::places_are_members();
-    setl_rep_entering::laws::bases_are_lengthened();
-    let marks = base_marks(alloc, m, instance, bases)?;
-    enter_places(alloc, m, x, instance, bases)?;
-    match put_member(s, b, x, bases) {
+    setl_rep_entering::laws::elements_are_entered();
+    let mark = bases.at(b).mark();
+    let e = bases.enter(b, x.copy()?)?;
+    match put_member(s, b, e, bases) {
         Ok(()) => Ok(()),
-        Err(e) => {
-            take_back(marks, bases);
-            Err(e)
+        Err(refused) => {
+            bases.undo(b, &mark);
+            Err(refused)
         }
     }
 }
 
-// Puts a member of its base into a set of numbers. After an error, which is want of memory or that the value is 500 deep, the
-// set is as before.
-fn put_member(s: &mut Held, b: BaseId, x: &Value, bases: &Bases) -> Result<(), AllocError>
+// Puts a member of its base, which has this handle, into a set of numbers. After an error, which is want of memory or that the
+// value is 500 deep, the set is as before.
+fn put_member(s: &mut Held, b: BaseId, e: Elt, bases: &Bases) -> Result<(), AllocError>
     requires numbers { HasNumbersOf b (form s.old) }
     requires over { IsOver bases.now (form s.old) }
     requires shallow { part_depth (stands bases.now (form s.old)) ≤ 500 }
-    requires found { IsSome (find (base_at bases.now b) (datum x.now)) }
-    ensures value { OnOk result ((left : ℕ) → op_of With (stands bases.now (form s.old) ∷ Some (datum x.now) ∷ []) left ≡ Gives (stands bases.now (form s.new)) 0) }
+    requires found { (d : Datum) × (find (base_at bases.now b) d ≡ Some e) }
+    ensures value { OnOk result ((d : Datum) (left : ℕ) → find (base_at bases.now b) d ≡ Some e → op_of With (stands bases.now (form s.old) ∷ Some d ∷ []) left ≡ Gives (stands bases.now (form s.new)) 0) }
     ensures over { IsOver bases.now (form s.new) }
     ensures shallow { part_depth (stands bases.now (form s.new)) ≤ 500 }
     ensures alike { IsAlike (form s.old) (form s.new) }
     ensures refused { OnErr result (form s.new ≡ form s.old) }
 {
-    let e = Held::Elt(b, handle(bases.at(b), x));
-    match change(s, &e, true, bases) {
+    let x = Held::Elt(b, e);
+    match change(s, &x, true, bases) {
         Ok(_) => Ok(()),
         Err(_) => Err(AllocError),
     }

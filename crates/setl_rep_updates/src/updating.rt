@@ -55,7 +55,7 @@ pub fn update(
     ensures update { IsUpdate (mode_of mode.now) instance (given_by change.now (stands bases.old (form held.old))) bases.old bases.new (form held.old) (form held.new) result }
 {
     match change {
-        Change::With(x) => include(alloc, mode, held, x, bases, instance),
+        Change::With(x) => include(mode, held, x, bases, instance),
         Change::Less(x) => exclude(held, x, bases),
         Change::Lessf(x) => cut(held, x, bases),
         Change::Put(x, y) => put_part(alloc, mode, held, x, y, bases, instance),

@@ -1,27 +1,23 @@
-use Rattle.std.proofs.Common.{◌≤◌, sym, subst}
-use Rattle.setl_value.specs.Datum.{part_depth}
+use Rattle.std.proofs.Common.{◌≡◌, ◌∙◌, Some, sym, ap, subst}
 use Rattle.setl_value.specs.code.DatumOf.{datum}
-use Rattle.setl_modes.specs.Modes.{mode_of}
+use Rattle.setl_base.specs.Base.{find}
+use Rattle.setl_rep_bases.specs.Bases.{base_at, with_entered}
 use Rattle.setl_rep_forms.specs.FormOf.{form}
-use Rattle.setl_rep_updates.proofs.Including.{entered_is_found, stays_over}
+use Rattle.setl_rep_entering.specs.Entering.{AreLengthened}
+use Rattle.setl_rep_updates.proofs.Including.{element_in, numbers_there}
 use Rattle.setl_rep_updates.proofs.sets.enter_and_put.Goals as goal
 
-pub put_member-requires-clause-over : goal.put_member-requires-clause-over
-put_member-requires-clause-over c =
-    (stays_over c.forms_stay.ensures.kept c.places_are_members.ensures.kept (mode_of c.args.m.now) (datum c.args.x.now) c.args.instance c.args.bases.now c.enter_places.new.bases (form c.args.s.now) c.in_ok-enter_places.ensures.lengthened c.requires.over).0
-
-pub put_member-requires-clause-shallow : goal.put_member-requires-clause-shallow
-put_member-requires-clause-shallow c =
-    subst (λ v. part_depth v ≤ 500)
-    (sym (stays_over c.forms_stay.ensures.kept c.places_are_members.ensures.kept (mode_of c.args.m.now) (datum c.args.x.now) c.args.instance c.args.bases.now c.enter_places.new.bases (form c.args.s.now) c.in_ok-enter_places.ensures.lengthened c.requires.over).1)
-    c.requires.shallow
-
-pub put_member-requires-clause-found : goal.put_member-requires-clause-found
-put_member-requires-clause-found c =
-    entered_is_found c.bases_are_lengthened.ensures.names c.places_are_members.ensures.found (mode_of c.args.m.now) (datum c.args.x.now) c.args.instance c.args.bases.now c.enter_places.new.bases c.args.b c.requires.element c.requires.there c.in_ok-enter_places.ensures.lengthened
-
-pub returns-in-Err-clause-refused : goal.returns-in-Err-clause-refused
-returns-in-Err-clause-refused c = (
-  c.take_back.ensures (mode_of c.args.m.now) (datum c.args.x.now) c.args.instance c.args.bases.now c.in_ok-marks.ensures c.in_ok-enter_places.ensures.lengthened,
-  c.in-Err.ensures.refused,
-)
+pub returns-in-Ok-clause-put : goal.returns-in-Ok-clause-put
+returns-in-Ok-clause-put c =
+    let bs = c.args.bases.now in
+    let b = c.args.b in
+    let d = datum c.args.x.now in
+    let own = ap datum c.in_ok-copy.ensures.same in
+    let found : find (base_at c.enter.new.self b) d ≡ Some c.in_ok-e.e = ap (find (base_at c.enter.new.self b)) (sym own) ∙ c.in_ok-e.ensures.handle in
+    λ m n on. record {
+      lengthened = subst (AreLengthened m d n bs) (sym (c.in_ok-e.ensures.entered ∙ ap (with_entered bs b) own)) (element_in c.elements_are_entered.ensures.entered m n d bs b (numbers_there bs b (form c.args.s.now) c.requires.numbers c.requires.over) on);
+      value = λ left. c.in-Ok.ensures.value d left found;
+      over = c.put_member.ensures.over;
+      shallow = c.put_member.ensures.shallow;
+      alike = c.put_member.ensures.alike;
+    }
