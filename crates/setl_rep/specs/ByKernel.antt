@@ -4,7 +4,7 @@ use Rattle.setl_operators_table.specs.declared.Operator.{Operator}
 use Rattle.setl_operators_table.specs.declared.Operator.TheVariants.{Size, Domain, Add, Subtract, Multiply, Modulo, In, NotIn, With, Less, Get, Images}
 use Rattle.setl_rep_forms.specs.Form.{Form}
 use Rattle.setl_rep_bases.specs.Bases.{BasesState}
-use Rattle.setl_rep.specs.ByTable.{is_table, is_table_at, is_sets_at}
+use Rattle.setl_rep.specs.ByTable.{is_table, is_table_at}
 use Rattle.setl_rep_kernels.specs.Kernels.{is_single, is_numbered, is_remote, are_remote_alike, has_change, IsAlike}
 
 -- one operand: the size of a remote set, and the domain of a map as a table
@@ -23,7 +23,7 @@ has_two Subtract a b = are_remote_alike a b
 has_two Multiply a b = are_remote_alike a b
 has_two Modulo a b = are_remote_alike a b
 has_two Get f x = is_table_at f x
-has_two Images f x = is_sets_at f x
+has_two Images f x = is_table_at f x
 has_two o a b = false
 
 abbrev pub has_kernel : Operator → List Form → Bool

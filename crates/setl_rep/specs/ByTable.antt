@@ -23,10 +23,6 @@ is_table f = is_some (table_of f)
 abbrev pub is_table_at : (f x : Form) → Bool
 is_table_at f x = is_single x && is_some (table_of f)
 
--- the same of a map that keeps its images as sets
-abbrev pub is_sets_at : (f x : Form) → Bool
-is_sets_at f x = is_single x && keeps_sets f
-
 abbrev pub has_point : List Form → Bool
 has_point (f ∷ x ∷ []) = is_table_at f x
 has_point fs = false
@@ -42,10 +38,10 @@ abbrev pub IsOfMap : Operator → (f g : Form) → Type 0
 IsOfMap Domain f g = IsDomain f g
 IsOfMap o f g = Unit {0}
 
--- of two: the image of a point, where the map keeps one image for each, and the set of its images
+-- of two: the image of a point, where the map keeps one image for each, and the set of its images, where it keeps sets
 abbrev pub IsAtPoint : BasesState → Operator → (f x g : Form) → Type 0
 IsAtPoint bs Get f x g = keeps_one f ≡ true → IsImageOf bs f x g
-IsAtPoint bs Images f x g = IsImageOf bs f x g
+IsAtPoint bs Images f x g = keeps_sets f ≡ true → IsImageOf bs f x g
 IsAtPoint bs o f x g = Unit {0}
 
 abbrev pub IsByTable : BasesState → Operator → List Form → Form → Type 0

@@ -40,9 +40,9 @@ pub struct Applied {
 /// the result is the set in its form, changed in place where nobody else holds it.
 ///
 /// Nor is one made of a map that is held as a table, at a point that is held plain or as an element: `domain f` is the set of the
-/// numbers of its points, `f(x)`, where it keeps one image for each point, and `f{x}`, where it keeps sets, are in the form in
-/// which the map has them (`has_kernel`), and `f lessf x` is the map in its form, changed in place where nobody else holds it
-/// (`has_less`).
+/// numbers of its points, `f(x)` and `f{x}` come of what the map has at the point (`has_kernel`), and `f lessf x` is the map in
+/// its form, changed in place where nobody else holds it (`has_less`). Where the map keeps one image for each point, `f(x)` is in
+/// the form in which the map has it, and where it keeps sets, `f{x}` is. From others these are made plain.
 ///
 /// The operands stand over the bases for values at most 500 deep, or for `om`, and are as many as the operator takes. What is
 /// held plain goes to `op` as it is.

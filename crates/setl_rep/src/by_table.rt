@@ -68,7 +68,7 @@ pub(crate) fn image_at(
     }
 }
 
-/// The set of the images of a point in a map in table form that keeps these as sets; None for others, and for points as above.
+/// The set of the images of a point in a map in table form; None for others, and for points as above.
 pub(crate) fn images_at(
     alloc: Global,
     f: &Held,
@@ -79,8 +79,8 @@ pub(crate) fn images_at(
     requires point { IsOver bases.now (form x.now) }
     ensures value { IfOk result (λ o. IfSome o (λ r. (left : ℕ) → op_of Images (stands bases.now (form f.now) ∷ stands bases.now (form x.now) ∷ []) left ≡ Gives (held_value bases.now r.held) r.charged)) }
     ensures over { IfOk result (λ o. IfSome o (λ r. IsOver bases.now (form r.held))) }
-    ensures form { IfOk result (λ o. IfSome o (λ r. IsImageOf bases.now (form f.now) (form x.now) (form r.held))) }
-    ensures kernel { IfOk result (λ o. is_some o ≡ (is_single (form x.now) && keeps_sets (form f.now))) }
+    ensures form { IfOk result (λ o. IfSome o (λ r. keeps_sets (form f.now) ≡ true → IsImageOf bases.now (form f.now) (form x.now) (form r.held))) }
+    ensures kernel { IfOk result (λ o. is_some o ≡ (is_single (form x.now) && is_some (table_of (form f.now)))) }
 {
     let Some(v) = single(x, bases) else {
         return Ok(None);

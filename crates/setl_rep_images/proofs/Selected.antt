@@ -102,16 +102,20 @@ content_over bs b many (entry_then k f es) n c o h = by (n == k) h (content_over
     by true q rest = subst (λ g. IsOver bs g × IsContent many (stands bs g)) (same_Some f c q) (o.1, o.2)
     by false q rest = rest q
 
--- what stands for the images of a point is no deeper than the map
-content_depth : (many : Bool) (o : Option Datum) (x : Datum) (l : List Datum) → IsContent many o → images x l ≡ images_of many o → depth (set_of l) ≤ 500 → part_depth o ≤ 500
-content_depth many None x l c e h = omega arith
-content_depth false (Some y) x l c e h = omega (arith, images_depth x l, ap (λ k. elements_depth (elements_of k)) e, h)
-content_depth true (Some (set ms)) x l c e h = omega (arith, images_depth x l, ap (λ k. elements_depth (elements_of k)) e, ap elements_depth (elements_of-element_list ms), h)
-content_depth true (Some (bool z)) x l c e h = absurd c
-content_depth true (Some (int z)) x l c e h = absurd c
-content_depth true (Some (text z)) x l c e h = absurd c
-content_depth true (Some (atom z)) x l c e h = absurd c
-content_depth true (Some (tuple z)) x l c e h = absurd c
+-- the set of the images of a point is no deeper than the map
+set_depth : (x : Datum) (l is : List Datum) → images x l ≡ is → depth (set_of l) ≤ 500 → depth (set_of is) ≤ 500
+set_depth x l is e h = omega (arith, images_depth x l, ap (λ k. elements_depth (elements_of k)) e, h)
+
+-- nor is what stands for them
+content_depth : (many : Bool) (o : Option Datum) → IsContent many o → depth (set_of (images_of many o)) ≤ 500 → part_depth o ≤ 500
+content_depth many None c h = omega arith
+content_depth false (Some y) c h = omega (arith, h)
+content_depth true (Some (set ms)) c h = omega (arith, ap elements_depth (elements_of-element_list ms), h)
+content_depth true (Some (bool z)) c h = absurd c
+content_depth true (Some (int z)) c h = absurd c
+content_depth true (Some (text z)) c h = absurd c
+content_depth true (Some (atom z)) c h = absurd c
+content_depth true (Some (tuple z)) c h = absurd c
 
 -- ---- the parts of a table
 
@@ -146,15 +150,13 @@ module _ (bs : BasesState) (f : Form) (b : BaseId) (many : Bool) (t : table_of f
   pub images_in_content : (c : Option Form) → images_from bs f c ≡ images_of many (option_and_then (stands bs) c)
   images_in_content c = ap (λ g. images_from bs g c) to.is
 
-  pub readable : (n : ℕ) (x : Datum) (c : Form) → IsOver bs f → part_depth (stands bs f) ≤ 500 → content_of f n ≡ Some c → images x (map_pairs bs f) ≡ images_from bs f (Some c) → IsOver bs c × (part_depth (stands bs c) ≤ 500)
-  readable n x c over shallow there are =
-      let whole = subst (IsOver bs) to.is over in
-      let q = content_over bs (base_at bs b) many to.entries n c whole.1 (sym (ap (λ g. content_of g n) to.is) ∙ there) in (
-        q.0,
-        content_depth many (stands bs c) x (table_pairs bs (base_at bs b) many to.entries) q.1
-            (sym (ap (λ g. images x (map_pairs bs g)) to.is) ∙ are ∙ images_in_content (Some c))
-            (subst (λ g. part_depth (stands bs g) ≤ 500) to.is shallow),
-      )
+  shallow_at : (x : Datum) (c : Form) → part_depth (stands bs f) ≤ 500 → images x (map_pairs bs f) ≡ images_from bs f (Some c) → depth (set_of (images_of many (stands bs c))) ≤ 500
+  shallow_at x c shallow are =
+      set_depth x (table_pairs bs (base_at bs b) many to.entries) (images_of many (stands bs c)) (sym (ap (λ g. images x (map_pairs bs g)) to.is) ∙ are ∙ images_in_content (Some c))
+      (subst (λ g. part_depth (stands bs g) ≤ 500) to.is shallow)
+
+  content_at : (n : ℕ) (c : Form) → IsOver bs f → content_of f n ≡ Some c → IsOver bs c × IsContent many (stands bs c)
+  content_at n c over there = content_over bs (base_at bs b) many to.entries n c (subst (IsOver bs) to.is over).1 (sym (ap (λ g. content_of g n) to.is) ∙ there)
 
   -- ---- the content of a point
 
@@ -164,17 +166,24 @@ module _ (bs : BasesState) (f : Form) (b : BaseId) (many : Bool) (t : table_of f
   pub no_images_at : NoImagesElsewhere → IsKeyedForm f → IsBase (base_at bs b) → (x : Datum) → find (base_at bs b) x ≡ None → images x (map_pairs bs f) ≡ images_of many None
   no_images_at law keyed base x none = law bs f b many x t keyed (has_base base) none
 
-  pub is_readable : (n : ℕ) (x : Datum) (o : Option (Bor Held)) → IsOver bs f → part_depth (stands bs f) ≤ 500 → lent_form o ≡ content_of f n → images x (map_pairs bs f) ≡ images_from bs f (content_of f n) → IfSome o (λ c. IsHeldOver bs c.now)
-  is_readable n x None over shallow is are = tt
-  is_readable n x (Some c) over shallow is are =
-      let q = readable n x (form c.now) over shallow (sym is) (are ∙ ap (images_from bs f) (sym is)) in
-      record { over = q.0; shallow = q.1 }
-
   pub is_content : (n : ℕ) (o : Option (Bor Held)) → IsOver bs f → lent_form o ≡ content_of f n → IfSome o (λ c. IsContent many (held_value bs c.now))
   is_content n None over is = tt
-  is_content n (Some c) over is =
-      let whole = subst (IsOver bs) to.is over in
-      (content_over bs (base_at bs b) many to.entries n (form c.now) whole.1 (sym (ap (λ g. content_of g n) to.is) ∙ sym is)).1
+  is_content n (Some c) over is = (content_at n (form c.now) over (sym is)).1
+
+  module _ (n : ℕ) (x : Datum) (o : Option (Bor Held)) (shallow : part_depth (stands bs f) ≤ 500) (is : lent_form o ≡ content_of f n) (are : images x (map_pairs bs f) ≡ images_from bs f (content_of f n)) where
+    pub is_shallow : IfSome o (λ c. depth (set_of (images_of many (held_value bs c.now))) ≤ 500)
+    is_shallow = by o is
+      where
+        by : (l : Option (Bor Held)) → lent_form l ≡ content_of f n → IfSome l (λ c. depth (set_of (images_of many (held_value bs c.now))) ≤ 500)
+        by None e = tt
+        by (Some c) e = shallow_at x (form c.now) shallow (are ∙ ap (images_from bs f) (sym e))
+
+    pub is_readable : IsOver bs f → IfSome o (λ c. IsHeldOver bs c.now)
+    is_readable over = by o is is_shallow
+      where
+        by : (l : Option (Bor Held)) → lent_form l ≡ content_of f n → IfSome l (λ c. depth (set_of (images_of many (held_value bs c.now))) ≤ 500) → IfSome l (λ c. IsHeldOver bs c.now)
+        by None e h = tt
+        by (Some c) e h = let q = content_at n (form c.now) over (sym e) in record { over = q.0; shallow = content_depth many (stands bs (form c.now)) q.1 h }
 
   -- ---- operators
 
@@ -191,23 +200,15 @@ module _ (bs : BasesState) (f : Form) (b : BaseId) (many : Bool) (t : table_of f
       ∙ ap (λ u. if u then Gives (image x pairs) 0 else Fails KindFault) are_pairs
       ∙ ap (λ u. Gives u 0) (sym (is ∙ ap (λ g. only (images x (map_pairs bs g))) to.is))
 
-  pub selects : (x : Datum) (v : Datum) → v ≡ set_of (images x (map_pairs bs f)) → (left : ℕ) → op_of Images (stands bs f ∷ Some x ∷ []) left ≡ Gives (Some v) 0
+  pub selects : (x : Datum) (v : Option Datum) → v ≡ Some (set_of (images x (map_pairs bs f))) → (left : ℕ) → op_of Images (stands bs f ∷ Some x ∷ []) left ≡ Gives v 0
   selects x v is left =
       ap (λ g. op_of Images (stands bs g ∷ Some x ∷ []) left) to.is
       ∙ ap (on_map (λ g. set_value (images x g))) (element_list-elements_of pairs)
       ∙ ap (λ u. if u then set_value (images x pairs) else Fails KindFault) are_pairs
-      ∙ ap (λ u. Gives (Some u) 0) (sym (is ∙ ap (λ g. set_of (images x (map_pairs bs g))) to.is))
+      ∙ ap (λ u. Gives u 0) (sym (is ∙ ap (λ g. Some (set_of (images x (map_pairs bs g)))) to.is))
 
   pub gets_nothing : (x : Datum) → images x (map_pairs bs f) ≡ images_of many None → (left : ℕ) → op_of Get (stands bs f ∷ Some x ∷ []) left ≡ Gives (held_value bs code.Om) 0
   gets_nothing x none = gets x (held_value bs code.Om) (ap (stands bs) of_om ∙ ap only (sym none))
-
-  pub selects_content : (x : Datum) (v : Option Datum) → many ≡ true → IsContent many v → images x (map_pairs bs f) ≡ images_of many v → (left : ℕ) → op_of Images (stands bs f ∷ Some x ∷ []) left ≡ Gives v 0
-  selects_content x v sets content are left =
-      let is : v ≡ Some (set_of (images_of true v)) = set_of_content v (subst (λ m. IsContent m v) sets content) in
-      selects x (set_of (images_of true v)) (ap set_of (ap (λ m. images_of m v) (sym sets) ∙ sym are)) left ∙ ap (λ o. Gives o 0) (sym is)
-
-  pub selects_nothing : (x : Datum) (v : Option Datum) → v ≡ Some (set_of []) → images x (map_pairs bs f) ≡ images_of many None → (left : ℕ) → op_of Images (stands bs f ∷ Some x ∷ []) left ≡ Gives v 0
-  selects_nothing x v is none left = selects x (set_of []) (ap set_of (sym none)) left ∙ ap (λ o. Gives o 0) (sym is)
 
   pub tells_domain : (left : ℕ) → op_of Domain (stands bs f ∷ []) left ≡ Gives (Some (set_of (domain_of (map_pairs bs f)))) 0
   tells_domain left =

@@ -1,7 +1,8 @@
 //! The content of a point.
 
-ghost use Rattle.std.specs.Prelude.{◌≡◌, IfSome, IfNone, Some, None, option_and_then};
+ghost use Rattle.std.specs.Prelude.{◌≡◌, ◌≤◌, IfSome, IfNone, Some, None, option_and_then};
 ghost use Rattle.std.specs.Option.{option_map};
+ghost use Rattle.setl_value.specs.Datum.{depth, set_of};
 ghost use Rattle.setl_value.specs.code.DatumOf.{datum};
 ghost use Rattle.setl_value.specs.Pairs.{images};
 ghost use Rattle.setl_base.specs.Base.{find};
@@ -19,8 +20,8 @@ use setl_rep_forms::Held;
 use setl_rep_maps::{content, learn};
 use setl_value::Value;
 
-/// The content of a point, which stands for its image or for the set of its images; None where it has none. It takes no
-/// memory.
+/// The content of a point, which stands for its image or for the set of its images; None where it has none. The
+/// set of these images is at most 500 deep. It takes no memory.
 pub(crate) fn point_content<'a>(
     f: &'a Held,
     b: BaseId,
@@ -34,6 +35,7 @@ pub(crate) fn point_content<'a>(
     ensures form { lent_form result ≡ point_content bases.now (form f.now) (datum x.now) }
     ensures over { IfSome result (λ c. IsHeldOver bases.now c.now) }
     ensures content { IfSome result (λ c. IsContent many (held_value bases.now c.now)) }
+    ensures shallow { IfSome result (λ c. depth (set_of (images_of many (held_value bases.now c.now))) ≤ 500) }
 {
     setl_rep_maps::laws::contents_stand_for_images();
     learn(f);

@@ -5,7 +5,7 @@ use Rattle.setl_rep_forms.specs.FormOf.{form}
 use Rattle.setl_rep_forms.specs.Stands.{value_at}
 use Rattle.setl_rep_maps.specs.Contents.{images_from}
 use Rattle.setl_rep_maps.specs.code.Lent.{lent_form}
-use Rattle.setl_rep_images.proofs.Selected.{images_at, images_in_content, is_content, is_readable}
+use Rattle.setl_rep_images.proofs.Selected.{images_at, images_in_content, is_content, is_readable, is_shallow}
 use Rattle.setl_rep_images.proofs.contents.point_content.Goals as goal
 
 pub returns-in-Some-clause-images : goal.returns-in-Some-clause-images
@@ -22,7 +22,16 @@ returns-in-Some-clause-over c =
     let bs = c.args.bases.now in
     let f = form c.args.f.now in
     let at : value_at (base_at bs c.args.b) c.in-Some.n ≡ Some (datum c.args.x.now) = ap (λ b. value_at b c.in-Some.n) (sym c.at.ensures.base) ∙ c.in-Some.ensures.known in
-    is_readable bs f c.args.b c.args.many c.requires.table c.in-Some.n (datum c.args.x.now) c.content.result c.requires.held.over c.requires.held.shallow c.content.ensures
+    is_readable bs f c.args.b c.args.many c.requires.table c.in-Some.n (datum c.args.x.now) c.content.result c.requires.held.shallow c.content.ensures
+    (images_at bs f c.args.b c.args.many c.requires.table c.contents_stand_for_images.ensures.images c.requires.held.over c.learn.ensures c.at.ensures.known c.in-Some.n (datum c.args.x.now) at)
+    c.requires.held.over
+
+pub returns-in-Some-clause-shallow : goal.returns-in-Some-clause-shallow
+returns-in-Some-clause-shallow c =
+    let bs = c.args.bases.now in
+    let f = form c.args.f.now in
+    let at : value_at (base_at bs c.args.b) c.in-Some.n ≡ Some (datum c.args.x.now) = ap (λ b. value_at b c.in-Some.n) (sym c.at.ensures.base) ∙ c.in-Some.ensures.known in
+    is_shallow bs f c.args.b c.args.many c.requires.table c.in-Some.n (datum c.args.x.now) c.content.result c.requires.held.shallow c.content.ensures
     (images_at bs f c.args.b c.args.many c.requires.table c.contents_stand_for_images.ensures.images c.requires.held.over c.learn.ensures c.at.ensures.known c.in-Some.n (datum c.args.x.now) at)
 
 pub returns-in-Some-clause-content : goal.returns-in-Some-clause-content
