@@ -10,7 +10,7 @@ use Rattle.setl_operators_table.specs.declared.Operator.TheVariants.{With, Less,
 use Rattle.setl_map.specs.Laws.{ImagesAreShallower}
 use Rattle.setl_map.specs.Maps.{put_images}
 use Rattle.setl_operators_table.specs.Outcome.{Outcome, Gives, Fails, Overspends, DeepFault, KindFault, adding, then_with, value, set_value, within_depth}
-use Rattle.setl_operators_table.specs.Collections.{on_map, with_datum, less_datum}
+use Rattle.setl_operators_table.specs.Collections.{on_map, with_datum}
 use Rattle.setl_operators_table.specs.Operators.{op_of}
 use Rattle.setl_operators_table.specs.Puts.{add_image}
 use Rattle.setl_model.specs.Core.{Brace}
@@ -61,17 +61,24 @@ one_image_more law d x y left = refl
 
 -- ---- one less
 
+-- what gives a set of the images without a charge
+pub puts_set : (f : Option Datum → ℕ → Outcome) (ms : Elements) (x : Datum) (zs : List Datum) (left : ℕ) → is_map (element_list ms) ≡ true
+    → ((now : ℕ) → f (Some (set_of (images x (element_list ms)))) now ≡ set_value zs)
+    → combined (Brace (Some x) ∷ []) (Some (set ms)) f left ≡ within_depth (set_of (put_images x zs (element_list ms)))
+puts_set f ms x zs left h e =
+    let ys = images x (element_list ms) in
+    ap (λ b. then_with (if b then set_value ys else Fails KindFault) left (λ p now. then_with (f p now) now (puts ms x))) h
+    ∙ no_charge (then_with (f (Some (set_of ys)) (left - 0)) (left - 0) (puts ms x))
+    ∙ ap (λ o. then_with o (left - 0) (puts ms x)) (e (left - 0))
+    ∙ no_charge (puts ms x (Some (set_of zs)) (left - 0 - 0))
+    ∙ puts_images ms x zs (left - 0 - 0) h
+
 puts_less : (ms : Elements) (x y : Datum) (left : ℕ) → is_map (element_list ms) ≡ true
     → combined (Brace (Some x) ∷ []) (Some (set ms)) (λ p now. op_of Less (p ∷ Some y ∷ []) now) left
     ≡ within_depth (set_of (put_images x (remove_datum y (images x (element_list ms))) (element_list ms)))
 puts_less ms x y left h =
     let ys = images x (element_list ms) in
-    let zs = remove_datum y ys in
-    ap (λ b. then_with (if b then set_value ys else Fails KindFault) left (λ p now. then_with (op_of Less (p ∷ Some y ∷ []) now) now (puts ms x))) h
-    ∙ no_charge (then_with (less_datum (set_of ys) y) (left - 0) (puts ms x))
-    ∙ ap (λ l. then_with (set_value (remove_datum y l)) (left - 0) (puts ms x)) (element_list-elements_of ys)
-    ∙ no_charge (puts ms x (Some (set_of zs)) (left - 0 - 0))
-    ∙ puts_images ms x zs (left - 0 - 0) h
+    puts_set (λ p now. op_of Less (p ∷ Some y ∷ []) now) ms x (remove_datum y ys) left h (λ now. ap (λ l. set_value (remove_datum y l)) (element_list-elements_of ys))
 
 shallow : (d : Datum) → depth d < 501 → within_depth d ≡ value d
 shallow d h =

@@ -3,6 +3,7 @@ pub mod Inside
 pub mod Takings
 pub mod Images
 pub mod Removing
+pub mod Alone
 pub mod Image
 pub mod Component
 pub mod Flat

@@ -22,7 +22,7 @@ is_at x d = is_datum x (first_of (pair_parts d))
 abbrev seconds : List Datum → List Datum
 seconds ds = filter_map (λ d. second_of (pair_parts d)) ds
 
-abbrev paired : Datum → List Datum → List Datum
+abbrev pub paired : Datum → List Datum → List Datum
 paired x ys = map (λ y. pair x y) ys
 
 itself : (d : Datum) → datum_cmp d d ≡ Equal
@@ -58,7 +58,7 @@ or_grouped : (a b c : Bool) → (a || (b || c)) ≡ ((a || b) || c)
 or_grouped true b c = refl
 or_grouped false b c = refl
 
-or_swapped : (a b c : Bool) → (a || (b || c)) ≡ (b || (a || c))
+pub or_swapped : (a b c : Bool) → (a || (b || c)) ≡ (b || (a || c))
 or_swapped true true c = refl
 or_swapped true false c = refl
 or_swapped false b c = refl

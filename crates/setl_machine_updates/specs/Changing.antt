@@ -13,7 +13,7 @@ use Rattle.setl_operators_table.specs.declared.Operator.{Operator}
 use Rattle.setl_operators_table.specs.declared.Operator.TheVariants.{Less}
 use Rattle.setl_operators_table.specs.Operators.{op_of}
 use Rattle.setl_operators_table.specs.Outcome.{Gives, value}
-use Rattle.setl_model.specs.Core.{Round}
+use Rattle.setl_model.specs.Core.{Round, Brace}
 use Rattle.setl_model.specs.Places.{combined, part_of, take_out, with_part_at}
 use Rattle.setl_machine_updates.specs.Parts.{TakesOne}
 use Rattle.setl_machine_updates.specs.Updates.{Updates}
@@ -41,6 +41,12 @@ module _ {F R : Type 0} (g : Once F (MutBor Value × Unit {0}) (R × (MutBor Val
 -- the part at x is combined with a value, where that is what the whole is now
 pub record CombinesAt (o : Operator) (x y : Datum) (turns : ℕ) (whole now : Datum) (r : Result ℕ OpFault) : Type 0 where
   pub updates : Updates (combined (Round (Some x) ∷ []) (Some whole) (λ p left. op_of o (p ∷ Some y ∷ []) left) turns) turns (Some now) r
+
+-- the images of a point combined with one datum are what they are combined with another
+abbrev pub CombinesAlike : Operator → Datum → Operator → Datum → Type 0
+CombinesAlike o d p e =
+    (whole : Option Datum) (x : Datum) (left : ℕ)
+    → combined (Brace (Some x) ∷ []) whole (λ v now. op_of o (v ∷ Some d ∷ []) now) left ≡ combined (Brace (Some x) ∷ []) whole (λ v now. op_of p (v ∷ Some e ∷ []) now) left
 
 -- a set without a member
 pub record IsLessened (d old new : Datum) : Type 0 where

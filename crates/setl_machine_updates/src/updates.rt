@@ -4,21 +4,16 @@ ghost use Rattle.std.specs.Prelude.{◌≡◌, ◌∷◌, [], Some, OnErr, map};
 ghost use Rattle.setl_value.specs.code.DatumOf.{datum, part};
 ghost use Rattle.setl_operators_table.specs.declared.Operator.TheVariants.{Add, Subtract, With, Less, Lessf};
 ghost use Rattle.setl_operators_table.specs.Operators.{op_of, operand_count};
-ghost use Rattle.setl_operators_table.specs.Puts.{add_image};
-ghost use Rattle.setl_model.specs.Core.{Brace};
 ghost use Rattle.setl_model.specs.Places.{with_part_at_all, combined};
 ghost use Rattle.setl_machine_updates.specs.Selectors.{selected};
 ghost use Rattle.setl_machine_updates.specs.Updates.{Updates};
 
-use crate::one_image::remove_image;
+use crate::one_image::combine_images;
 use crate::one_part::combine_there;
 use crate::selectors::{Selector, apply, part_at, put_part};
 use crate::two_parts::{combine_inside, put_there};
-use setl_map::laws::images_are_shallower;
 use setl_operators_arithmetic::{minus_in_place, plus_in_place};
-use setl_operators_collections::{
-    add_image_in_place, less_in_place, lessf_in_place, with_in_place,
-};
+use setl_operators_collections::{less_in_place, lessf_in_place, with_in_place};
 use setl_operators_table::{OpFault, Operator};
 use setl_value::Value;
 use std::alloc::Global;
@@ -135,12 +130,9 @@ fn combine_part(
     ensures refused { OnErr result (whole.new ≡ whole.old) }
 {
     match (what, at, value) {
-        (Operator::With, Selector::Brace(Some(x)), Some(y)) => {
-            combine_images(alloc, whole, x, y, turns)
-        }
-        (Operator::Less, Selector::Brace(Some(x)), Some(y)) => {
-            match remove_image(alloc, whole, x, y, turns)? {
-                Some(left) => Ok(left),
+        (_, Selector::Brace(Some(x)), Some(y)) => {
+            match combine_images(alloc, what, whole, x, y, turns)? {
+                Some(answer) => answer,
                 None => combine_copy(alloc, what, whole, at, value, turns),
             }
         }
@@ -152,39 +144,6 @@ fn combine_part(
         }
         _ => combine_copy(alloc, what, whole, at, value, turns),
     }
-}
-
-// Combines the images of a point with one image more.
-fn combine_images(
-    alloc: Global,
-    whole: &mut Option<Value>,
-    x: &Value,
-    y: &Value,
-    turns: u64,
-) -> Result<u64, OpFault>
-    ensures updated { Updates (combined (Brace (Some (datum x.now)) ∷ []) (part whole.old) (λ p now. op_of With (p ∷ Some (datum y.now) ∷ []) now) turns) turns (part whole.new) result }
-    ensures refused { OnErr result (whole.new ≡ whole.old) }
-{
-    images_are_shallower();
-    let Some(whole) = whole else {
-        return Err(OpFault::Om);
-    };
-    add_image(alloc, whole, x, y, turns)
-}
-
-// One image more, in place.
-fn add_image(
-    alloc: Global,
-    whole: &mut Value,
-    x: &Value,
-    y: &Value,
-    turns: u64,
-) -> Result<u64, OpFault>
-    ensures updated { Updates (add_image (datum whole.old) (datum x.now) (datum y.now)) turns (Some (datum whole.new)) result }
-    ensures refused { OnErr result (whole.new ≡ whole.old) }
-{
-    let charged = add_image_in_place(alloc, whole, x.copy()?, y.copy()?)?;
-    Ok(turns.saturating_sub(charged))
 }
 
 // Combines a copy of the part at one selector with a value, and puts it there.

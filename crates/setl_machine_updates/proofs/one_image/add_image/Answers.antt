@@ -8,7 +8,7 @@ use Rattle.setl_model.specs.Core.{Brace}
 use Rattle.setl_model.specs.Places.{combined}
 use Rattle.setl_machine_updates.specs.Updates.{Updates}
 use Rattle.setl_machine_updates.proofs.Images.{one_image_more}
-use Rattle.setl_machine_updates.proofs.updates.combine_images.Goals as goal
+use Rattle.setl_machine_updates.proofs.one_image.add_image.Goals as goal
 
 pub returns-clause-updated : goal.returns-clause-updated
 returns-clause-updated c =
@@ -16,4 +16,4 @@ returns-clause-updated c =
     let y = datum c.args.y.now in
     let f : Option Datum → ℕ → Outcome = λ p now. op_of With (p ∷ Some y ∷ []) now in
     let e = ap (λ w. combined (Brace (Some x) ∷ []) (part w) f c.args.turns) c.in-Some.is ∙ one_image_more c.images_are_shallower.ensures (datum c.in-Some.whole) x y c.args.turns in
-    subst (λ o. Updates o c.args.turns (Some (datum c.add_image.new.whole)) c.add_image.result) (sym e) c.add_image.ensures.updated
+    subst (λ o. Updates o c.args.turns (Some (datum c.add_in.new.whole)) c.add_in.result) (sym e) c.add_in.ensures.updated
