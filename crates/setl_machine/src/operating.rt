@@ -212,8 +212,30 @@ fn operate_on_two_held(
             control.charge(0);
             put_for_two(Some(Value::Bool(truth)), store)
         }
-        None => operate_listed(what, count, line, store, control),
+        None => select_or_list(what, count, line, store, control),
     }
+}
+
+/// The same of two operands, where the lower one may be a map in a form.
+fn select_or_list(
+    what: Operator,
+    count: u32,
+    line: u32,
+    store: &mut Store<'_>,
+    control: &mut Control,
+) -> Result<End, AllocError>
+    requires few { CanGoOn store.old }
+    requires fits { TakesOperands what count }
+    requires two { operand_count what ≡ Some 2 }
+    ensures did { IfOk result (λ end. Does store.old control.old line (Operate what count) store.new control.new end) }
+    ensures reader { control.new.reader ≡ control.old.reader }
+{
+    if !store.select(what)? {
+        return operate_listed(what, count, line, store, control);
+    }
+    control.charge(0);
+    go_on(store);
+    Ok(End::Paused)
 }
 
 /// The same with a list of the operands.

@@ -32,6 +32,7 @@ use setl_machine_control::{Declaration, End, go_on};
 use setl_modes::{Form, Mode};
 use setl_modes_parts::{combines, parts_decide};
 use setl_operators::Operator;
+use setl_rep_forms::Held;
 use setl_rep_updates::Change;
 use setl_store::{Content, Store};
 use setl_value::Value;
@@ -95,8 +96,8 @@ fn is_held_so(mode: &Mode) -> bool {
     }
 }
 
-/// Pushes what a variable holds in a form: in that form where the next instruction has a kernel for it, and else the plain value,
-/// which the variable then holds too. The error is want of memory.
+/// Pushes what a variable holds in a form: in that form where it goes into an operator with a kernel for it, and else the plain
+/// value, which the variable then holds too. The error is want of memory.
 #[inline(never)]
 pub(crate) fn load_form(slot: Slot, store: &mut Store<'_>) -> Result<End, AllocError>
     requires few { CanGoOn store.old }
@@ -104,7 +105,7 @@ pub(crate) fn load_form(slot: Slot, store: &mut Store<'_>) -> Result<End, AllocE
     requires there { IsThere (held (plain_slot (variables store.old.core) slot) store.old.core) }
     ensures { (line : ℕ) → IfOk result (λ end. Works store.old line (Load (plain_slot (variables store.old.core) slot)) store.new end) }
 {
-    if takes_forms(store) {
+    if is_taken_in_form(slot, store) {
         load_in_form(slot, store)
     } else {
         load_plain(slot, store)
@@ -137,23 +138,60 @@ fn load_plain(slot: Slot, store: &mut Store<'_>) -> Result<End, AllocError>
     Ok(End::Paused)
 }
 
-// Whether the instruction behind the one in hand takes a set in a form.
-fn takes_forms(store: &Store<'_>) -> bool
-    requires { CanGoOn store.now }
+// Whether what the instruction in hand pushes of a variable's form goes into an operator that takes such a form as it is, before
+// anything else is done but to push and to operate on what stands above it.
+fn is_taken_in_form(slot: Slot, store: &Store<'_>) -> bool
+    requires few { CanGoOn store.now }
+    requires slot { HasSlot (length store.now.core.globals) (length store.now.core.now.own) slot }
 {
+    let Some(form) = store.form(slot) else {
+        return false;
+    };
     let Some(body) = store.code().bodies.as_slice().get(store.body() as usize) else {
         return false;
     };
-    let Some(step) = body.steps.as_slice().get(store.at() + 1) else {
-        return false;
-    };
-    match &step.what {
-        Instr::Operate(Operator::In, _) | Instr::Operate(Operator::NotIn, _) => {
-            store.one().is_some()
+    let first = store.at() + 1;
+    let mut above: u32 = 0;
+    for at in 0..SEEN {
+        let Some(step) = body.steps.as_slice().get(first.saturating_add(at)) else {
+            return false;
+        };
+        match &step.what {
+            Instr::Integer(_) | Instr::Text(_) | Instr::Truth(_) => above = above.saturating_add(1),
+            Instr::Load(_) | Instr::Take(_) => above = above.saturating_add(1),
+            Instr::Operate(what, count) => {
+                if *count > above {
+                    return takes_form(*what, above, form, store);
+                }
+                above = (above - *count).saturating_add(1);
+            }
+            _ => return false,
         }
-        Instr::Operate(Operator::Size, _) => true,
+    }
+    false
+}
+
+// How many instructions are looked at.
+const SEEN: usize = 12;
+
+// Whether an operator takes a form as it is, above which so many of its operands stand.
+fn takes_form(what: Operator, above: u32, form: &Held, store: &Store<'_>) -> bool {
+    match what {
+        Operator::In | Operator::NotIn => above == 0 && is_numbered(form) && store.one().is_some(),
+        Operator::Size => above == 0 && matches!(form, Held::Remote(_, _)),
+        Operator::Get | Operator::Images => above == 1 && is_table(form),
         _ => false,
     }
+}
+
+// Whether a form is that of a set as the numbers of its members.
+fn is_numbered(form: &Held) -> bool {
+    matches!(form, Held::Remote(_, _) | Held::Sparse(_, _))
+}
+
+// Whether a form is that of a map as a table.
+fn is_table(form: &Held) -> bool {
+    matches!(form, Held::RemoteMap(_, _, _) | Held::SparseMap(_, _, _))
 }
 
 /// `s with:= x` and `s less:= x`, where the variable holds a form in which that is done where it stands. Its answer is whether this

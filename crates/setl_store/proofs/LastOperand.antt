@@ -1,7 +1,7 @@
 -- The last operand put in the place of another.
-use Rattle.std.proofs.Common.{◌≡◌, ℕ, ◌+◌, ◌-◌, ◌<◌, ◌≤◌, List, [], ◌∷◌, ◌++◌, length, take, drop, reverse, set, get_or, refl, sym, ap, ◌∙◌, subst, arith, Some}
+use Rattle.std.proofs.Common.{◌≡◌, ℕ, ◌+◌, ◌-◌, ◌<◌, ◌≤◌, List, [], ◌∷◌, ◌++◌, length, take, drop, reverse, set, get_or, refl, sym, ap, ◌∙◌, subst, arith, Option, Some}
 use Rattle.std.specs.Prelude.{slice_get, IsSome}
-use Rattle.std.proofs.lemmas.List.{length-set, take_all, take_more_set}
+use Rattle.std.proofs.lemmas.List.{length-set, length-take-le, take_all, take_more_set}
 use Rattle.std.proofs.lemmas.Option.{slice_get-get_or}
 use Rattle.setl_code.specs.declared.code.Code.{Code}
 use Rattle.setl_code.specs.CodeCore as core
@@ -9,6 +9,7 @@ use Rattle.setl_code.specs.CodeCore.{CodeCore, Result as Holds}
 use Rattle.setl_code.specs.MayRun.{MayRun}
 use Rattle.setl_code.specs.Plain.{plain_code}
 use Rattle.setl_rep_bases.specs.Bases.{BasesState}
+use Rattle.setl_value.specs.Datum.{Datum}
 use Rattle.setl_store_operands.specs.declared.cells.Member.{Member}
 use Rattle.setl_store_operands.specs.declared.cells.Operand.{Operand}
 use Rattle.setl_store_operands.specs.declared.cells.Operand.TheVariants as operand
@@ -102,3 +103,30 @@ module _ (code : Code) (bs : BasesState) (keeps : ℕ) (at : ℕ) (e : Here) (ke
     last_off e' kept' now same =
         pops code bs keeps at e e' kept kept' s n o holds is (omega (arith, last, some_above)) (omega (arith, last, some_above)) there
         (now ∙ (λ i. cut_to e (sym last i) (lowest_is i))) same
+
+-- a value in the place of the two results on top
+pub two_set : (code : Code) (bs : BasesState) (keeps : ℕ) (at : ℕ) (e : Here) (kept : List (Here × Kept)) (s : Standing) →
+    MayRun code × IsSound (plain_code code) bs e × AllSound (plain_code code) bs keeps e.slots kept → stands code bs at e kept ≡ s →
+    (e' : Here) (kept' : List (Here × Kept)) (o' : Operand) (p : core.Operand) (v u : Option Datum) (xs : List core.Operand) → s.core.now.operands ≡ Holds v ∷ Holds u ∷ xs →
+    e' ≡ record e { operands = set (take (length e.operands - 1) e.operands) (length e.operands - 2) o' } → kept' ≡ kept →
+    ((os : List Operand) (m : ℕ) → HasMembers os m → HasMembers (o' ∷ os) m) → GotThese p → IsOperandOver bs o' → operand_of bs e.members o' ≡ p →
+    Changed code bs keeps at e' kept' s (over (p ∷ drop 2 s.core.now.operands) s.core)
+two_set code bs keeps at e kept s holds is e' kept' o' p v u xs tops now same alone got over_them to =
+    let ops = s.core.now.operands in
+    let n = length e.operands - 1 in
+    let above = plain_above code bs keeps at e kept s holds is (subst IsPlainTop (sym tops) tt) in
+    let o = get_or e.operands n operand.Om in
+    let last : Some o ≡ slice_get e.operands n = sym (slice_get-get_or e.operands n operand.Om (omega (arith, above))) in
+    let top = top_is code bs at e kept s n o holds.1 is above refl last in
+    let none : members_below o (length e.members) ≡ length e.members = plain_members bs e.members o (drop 1 ops) (length e.members) (subst IsPlainTop top (subst IsPlainTop (sym tops) tt)) in
+    let cut = cut_to e n (length e.members) in
+    let k = over (drop 1 ops) s.core in
+    let below = pops code bs keeps at e cut kept kept s n o holds is (omega (arith, above)) (omega (arith, above)) last (ap (cut_to e n) (sym none)) refl in
+    let members : take (length e.members) e.members ≡ e.members = take_all (length e.members) e.members (omega arith) in
+    let lower : length (take n e.operands) - 1 ≡ length e.operands - 2 = omega (arith, above, length-take-le n e.operands (omega (arith, above))) in
+    let whole : e' ≡ record cut { operands = set cut.operands (length cut.operands - 1) o' } = now ∙ (λ i. record e { operands = set (take n e.operands) (sym lower i) o'; members = sym members i }) in
+    let second : IsPlainTop (drop 1 ops) = subst (λ ys. IsPlainTop (drop 1 ys)) (sym tops) tt in
+    let both : drop 1 (drop 1 ops) ≡ drop 2 ops = ap (λ ys. drop 1 (drop 1 ys)) tops ∙ sym (ap (λ ys. drop 2 ys) tops) in
+    subst (λ ys. Changed code bs keeps at e' kept' s (over (p ∷ ys) s.core)) both
+    (behind code bs keeps at e' kept' s k (over (p ∷ drop 1 (drop 1 ops)) s.core)
+    (top_set code bs keeps at cut kept (record s { core = k }) below.holds below.stands e' kept' o' p second whole same alone got over_them (ap (λ ms. operand_of bs ms o') members ∙ to)))

@@ -1,6 +1,6 @@
 //! Changes of the environment of a store, with the memory that they take.
 
-ghost use Rattle.std.specs.Prelude.{◌≡◌, ◌<◌, ◌-◌, ◌+◌, ◌≤◌, length, slice_get, slice_set, true, Some, IfSome, IfOk, OnOk, OnErr};
+ghost use Rattle.std.specs.Prelude.{◌≡◌, ◌<◌, ◌-◌, ◌+◌, ◌≤◌, length, slice_get, slice_set, take, true, Some, IfSome, IfOk, OnOk, OnErr};
 ghost use Rattle.setl_store.specs.Flat.{with_operand, with_slot, cut_to};
 ghost use Rattle.setl_store.specs.Small.{is_small, is_small_held};
 
@@ -123,6 +123,20 @@ fn put_any_operand(environment: &mut Contents, operand: Operand) -> Result<(), A
     let last = environment.operands() - 1;
     environment.reserve(1)?;
     environment.set_operand(last, operand);
+    Ok(())
+}
+
+/// Drops the last operand, and puts an operand in the place of the one below it.
+pub(crate) fn put_for_two(environment: &mut Contents, operand: Operand) -> Result<(), AllocError>
+    requires { 1 < length environment.old.now.operands }
+    ensures now { OnOk result (environment.new.now ≡ record environment.old.now { operands = slice_set (take (length environment.old.now.operands - 1) environment.old.now.operands) (length environment.old.now.operands - 2) operand }) }
+    ensures kept { environment.new.kept ≡ environment.old.kept }
+    ensures refused { OnErr result (environment.new.now ≡ environment.old.now) }
+{
+    let lower = environment.operands() - 2;
+    environment.reserve(2)?;
+    environment.drop_operand();
+    environment.set_operand(lower, operand);
     Ok(())
 }
 

@@ -169,9 +169,9 @@ fn part_in<'a>(operand: &'a Operand, bases: &'a Bases) -> Option<Option<&'a Valu
     }
 }
 
-// The value that so many operands stand above, as it is held; None where none is there, or it is `om`, a collection or an
-// iterator.
-fn held_below(environment: &Contents, count: usize) -> Option<AsHeld<'_>>
+/// The value that so many operands stand above, as it is held; None where none is there, or it is `om`, a collection or an
+/// iterator. It takes no memory.
+pub(crate) fn held_below(environment: &Contents, count: usize) -> Option<AsHeld<'_>>
     requires some { 0 < length environment.now.now.activations }
     requires low { lowest_in (reverse environment.now.now.activations) ≤ length environment.now.now.operands }
     ensures { IfSome result (IsHeldBelow environment.now.now count) }

@@ -13,6 +13,7 @@ mod main_program;
 mod operands;
 mod putting;
 mod returning;
+mod selecting;
 mod store;
 
 pub use iterating::Ahead;

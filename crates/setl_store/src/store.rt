@@ -1,6 +1,6 @@
 //! What `fail` brings back.
 
-ghost use Rattle.std.specs.Prelude.{◌≡◌, ◌<◌, ◌≤◌, ◌-◌, ◌+◌, [], ◌∷◌, length, reverse, IfOk, OnOk, OnErr};
+ghost use Rattle.std.specs.Prelude.{◌≡◌, ◌<◌, ◌≤◌, ◌-◌, ◌+◌, [], ◌∷◌, length, reverse, IfOk, IfSome, OnOk, OnErr};
 ghost use Rattle.setl_code.specs.CodeCore.{Result as Holds, Collecting, There, Gone, held, write};
 ghost use Rattle.setl_code.specs.MayRun.{HasSlot};
 ghost use Rattle.setl_code.specs.Plain.{plain_slot};
@@ -18,6 +18,7 @@ use crate::changes::{add_operand, take_slot, write_slot};
 use setl_code::{Code, Slot};
 use setl_program::Collection;
 use setl_rep_bases::Bases;
+use setl_rep_forms::Held as Form;
 use setl_rep_plain::plain;
 use setl_store_iterator::Iterator;
 use setl_store_operands::{Lent, Operand, lend, operand, operand_in};
@@ -105,6 +106,18 @@ impl<'c> Store<'c> {
             Held::Value(value) => Content::Value(value),
             Held::Taken => Content::Taken,
             Held::Based(_, _) => Content::Based,
+        }
+    }
+
+    /// The form in which a variable's slot holds what it does; None where it holds that as it is, or its value was taken. It takes
+    /// no memory.
+    pub fn form(&self, slot: Slot) -> Option<&Form>
+        requires { HasSlot (length self.now.core.globals) (length self.now.core.now.own) slot }
+        ensures { IfSome result (λ _. IsThere (held (plain_slot (variables self.now.core) slot) self.now.core)) }
+    {
+        match self.environment.slot(place(&self.environment, slot)) {
+            Held::Based(_, form) => Some(form.get()),
+            Held::Om | Held::Value(_) | Held::Taken => None,
         }
     }
 

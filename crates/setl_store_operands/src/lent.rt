@@ -1,18 +1,20 @@
-//! Operands, and what their forms stand for, where these can be lent. Nothing here takes memory.
+//! Operands, and what their forms stand for, where these can be lent.
 
-ghost use Rattle.std.specs.Prelude.{◌≡◌, Some, IfSome};
+ghost use Rattle.std.specs.Prelude.{◌≡◌, ◌∷◌, Some, IfOk, IfSome};
 ghost use Rattle.setl_value.specs.code.DatumOf.{datum};
 ghost use Rattle.setl_code.specs.CodeCore.{Result as Holds};
 ghost use Rattle.setl_rep_forms.specs.FormOf.{form};
 ghost use Rattle.setl_rep_forms.specs.Stands.{IsOver};
-ghost use Rattle.setl_rep_plain.specs.Standing.{held_value};
+ghost use Rattle.setl_rep_plain.specs.Standing.{held_value, IsHeldOver};
 ghost use Rattle.setl_store_operands.specs.Lending.{value_as, IsLent, IsLentValue, IsOverAs};
-ghost use Rattle.setl_store_operands.specs.Operands.{operand_of, IsOperandOver};
+ghost use Rattle.setl_store_operands.specs.Operands.{operand_of, HasMembers, IsOperandOver};
 
 use crate::cells::Operand;
 use setl_rep_bases::Bases;
 use setl_rep_forms::Held;
+use setl_store_slots::Shared;
 use setl_value::Value;
+use std::alloc::{AllocError, Global};
 
 /// What a form stands for.
 #[derive(Clone, Copy)]
@@ -23,7 +25,7 @@ pub enum Lent<'a> {
     Whole,
 }
 
-/// What a form stands for: a value that lies plain, in the form or in its base, is lent.
+/// What a form stands for: a value that lies plain, in the form or in its base, is lent. It takes no memory.
 pub fn lend<'a>(held: &'a Held, bases: &'a Bases) -> Lent<'a>
     requires { IsOver bases.now (form held.now) }
     ensures { IsLent (held_value bases.now held.now) result }
@@ -51,7 +53,7 @@ fn lent_value(value: Option<&Value>) -> Lent<'_>
 }
 
 /// The value that an operand is, where it lies plain, in the operand or in a base; None where it lies nowhere so, or the
-/// operand is `om`, an iterator or a collection.
+/// operand is `om`, an iterator or a collection. It takes no memory.
 #[inline(always)]
 pub fn plain_in<'a>(operand: &'a Operand, bases: &'a Bases) -> Option<&'a Value>
     requires { IsOperandOver bases.now operand.now }
@@ -75,7 +77,7 @@ pub enum AsHeld<'a> {
     Based(&'a Held),
 }
 
-/// The value that an operand is, as it is held; None where it is `om` as it is, an iterator or a collection.
+/// The value that an operand is, as it is held; None where it is `om` as it is, an iterator or a collection. It takes no memory.
 pub fn in_form(operand: &Operand) -> Option<AsHeld<'_>>
     ensures value { IfSome result (λ held. (bs : _) (members : _) → operand_of bs members operand.now ≡ Holds (value_as bs held)) }
     ensures over { IfSome result (λ held. (bs : _) → IsOperandOver bs operand.now → IsOverAs bs held) }
@@ -84,5 +86,35 @@ pub fn in_form(operand: &Operand) -> Option<AsHeld<'_>>
         Operand::Value(value) => Some(AsHeld::Plain(value)),
         Operand::Based(form) => Some(AsHeld::Based(form.get())),
         _ => None,
+    }
+}
+
+/// The value that is held so, where it lies plain; None where it lies nowhere so, or it is `om`. It takes no memory.
+pub fn plain_as<'a>(held: AsHeld<'a>, bases: &'a Bases) -> Option<&'a Value>
+    requires { IsOverAs bases.now held }
+    ensures { IfSome result (λ value. value_as bases.now held.entry ≡ Some (datum value.now)) }
+{
+    match held {
+        AsHeld::Plain(value) => Some(value),
+        AsHeld::Based(form) => match lend(form, bases) {
+            Lent::Value(value) => Some(value),
+            _ => None,
+        },
+    }
+}
+
+/// The operand that is what a form stands for: a copy of the value where that lies plain, and else the form.
+///
+/// The error is want of memory.
+pub fn operand_of_form(alloc: Global, form: Held, bases: &Bases) -> Result<Operand, AllocError>
+    requires { IsHeldOver bases.now form }
+    ensures stands { IfOk result (λ operand. (members : _) → operand_of bases.now members operand ≡ Holds (held_value bases.now form)) }
+    ensures over { IfOk result (IsOperandOver bases.now) }
+    ensures alone { IfOk result (λ operand. (os : _) (n : _) → HasMembers os n → HasMembers (operand ∷ os) n) }
+{
+    match lend(&form, bases) {
+        Lent::Om => Ok(Operand::Om),
+        Lent::Value(value) => Ok(Operand::Value(value.copy()?)),
+        Lent::Whole => Ok(Operand::Based(Shared::new(alloc, form)?)),
     }
 }

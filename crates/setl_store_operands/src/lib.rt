@@ -8,5 +8,5 @@ mod lent;
 mod values;
 
 pub use cells::{Member, Operand};
-pub use lent::{AsHeld, Lent, in_form, lend, plain_in};
+pub use lent::{AsHeld, Lent, in_form, lend, operand_of_form, plain_as, plain_in};
 pub use values::{is_value, operand, operand_in, served, value};
